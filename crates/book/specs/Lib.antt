@@ -1,0 +1,4 @@
+pub mod Refusals
+pub mod Terms
+pub mod Events
+pub mod Bytes

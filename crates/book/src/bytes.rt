@@ -1,0 +1,59 @@
+// The bytes of a book, read where they lie. What lies past the end of a slice reads as 0.
+ghost use mathlib.Core.Path.{_≡_};
+ghost use Prim.Native.Nat.{ℕ, _+_, _*_};
+ghost use lib.ListN.{length, drop};
+ghost use Rattle.book.specs.Bytes.{at, two, four, eight, row, Apart};
+ghost use Rattle.std.specs.Options.{Cases};
+
+// Byte i.
+pub fn byte_at(bytes: &[u8], i: usize) -> u8
+    ensures { λ r. ⌜ r ≡ at (now (bytes .entry)) i ⌝ }
+{
+    if i < bytes.len() { bytes[i] } else { 0 }
+}
+
+// The number in two bytes of a row from i on, the highest byte first.
+pub fn two_at(bytes: &[u8], i: u8) -> u16
+    ensures { λ r. ⌜ r ≡ two (now (bytes .entry)) i ⌝ }
+{
+    let i = usize::from(i);
+    256 * u16::from(byte_at(bytes, i)) + u16::from(byte_at(bytes, i + 1))
+}
+
+// The 32 bytes of record k, or what the book has of them. The head is record 0.
+pub fn row_of(book: &[u8], k: u16) -> &[u8]
+    ensures { λ r. ⌜ now r ≡ row (now (book .entry)) k ⌝ }
+{
+    let start = 32 * usize::from(k);
+    let from = start.min(book.len());
+    let to = (start + 32).min(book.len());
+    &book[from..to]
+}
+
+// A record taken apart: its kind, its marks, the next record of its chain, and the remaining
+// twenty-eight bytes.
+#[derive(Clone, Copy)]
+pub struct Parts<'a> {
+    pub kind: u8,
+    pub marks: u8,
+    pub next: u16,
+    pub rest: &'a [u8],
+}
+
+// Nothing where the row is not of 32 bytes.
+pub fn take_apart(bytes: &[u8]) -> Option<Parts<'_>>
+    ensures { λ r. ⌜ Cases r (length (now (bytes .entry)) ≡ 32 → ⊥) (λ p. Apart (now (bytes .entry)) (p .kind) (p .marks) (p .next) (now (p .rest))) ⌝ }
+{
+    if bytes.len() != 32 {
+        return None;
+    }
+    match bytes {
+        [kind, marks, next_high, next_low, rest @ ..] => Some(Parts {
+            kind: *kind,
+            marks: *marks,
+            next: 256 * u16::from(*next_high) + u16::from(*next_low),
+            rest,
+        }),
+        _ => None,
+    }
+}
