@@ -1,6 +1,16 @@
 // The records of both kinds of book, each with its fields by name. Indexes and goals are record
 // numbers, counted from 1; an index of 0 names nothing.
+use super::term::Order;
 use super::term::Path;
+
+// The head of a book, besides its kind and its number of records: the order of its net, its first
+// station or automaton, and its first path.
+#[derive(Clone, Copy)]
+pub struct Head {
+    pub order: Order,
+    pub first_station: u16,
+    pub first_path: u16,
+}
 
 // A fraction as it stands in a book. 0/0 stands for an endless lifetime.
 #[derive(Clone, Copy)]
