@@ -3,7 +3,7 @@ use mathlib.Core.Bool.{Bool, true, false, cond, not, _&&_, _||_}
 use mathlib.Core.List.{List, [], _∷_, _++_}
 use Prim.Native.Nat.{ℕ, _+_, _-_, _/_, _%_}
 use lib.Dec.{eqb, leb}
-use lib.ListN.{length, drop}
+use lib.ListN.{length, drop, replicate}
 use Rattle.std.specs.declared.option.Option.{Option}
 use Rattle.std.specs.declared.option.Option.the-variants.{Some, None}
 use Rattle.book.specs.Bytes.{at, two, four, eight, two-bytes, four-bytes, zeros}
@@ -79,6 +79,9 @@ path-in rest = record { sender = byte-in rest 4; «sender_port» = byte-in rest 
 
 abbrev pub path-laid : ℕ → List ℕ → Bool
 path-laid marks rest = eqb marks 0 && zeros-in rest 8 32
+
+abbrev pub path-rest : Path → List ℕ
+path-rest p = p .sender ∷ p .«sender_port» ∷ p .hearer ∷ p .«hearer_port» ∷ replicate 24 0
 
 -- something, if the layout holds
 abbrev pub given : {T : Type 0} → Bool → T → Option T

@@ -19,7 +19,7 @@ use Rattle.book.specs.declared.record.Word.{Word}
 use Rattle.book.specs.declared.record.Record.{Record}
 use Rattle.book.specs.declared.record.ModelBody.{ModelBody}
 use Rattle.book.specs.declared.record.ModelBody.the-variants as bodies
-use Rattle.records.specs.Fields.{byte-in, two-in, fraction-in, fraction-bytes, zeros-in, window, window-laid, window-marks, high-or, path-in, path-laid, given, decoded-by, row-bytes}
+use Rattle.records.specs.Fields.{byte-in, two-in, fraction-in, fraction-bytes, zeros-in, window, window-laid, window-marks, high-or, path-in, path-laid, path-rest, given, decoded-by, row-bytes}
 
 -- a station: 4–5 first phase, 6–7 opening phase
 abbrev pub station-in : List ℕ → Station
@@ -60,19 +60,35 @@ word-in rest = record { port = byte-in rest 4; value = byte-in rest 5 }
 abbrev pub word-laid : ℕ → List ℕ → Bool
 word-laid marks rest = eqb marks 0 && zeros-in rest 6 32
 
--- what a record holds, by its kind
-abbrev pub model-body : ℕ → ℕ → List ℕ → Option ModelBody
-model-body kind marks rest =
-    let station = given (station-laid marks rest) (bodies.Station (station-in rest)) in
-    let phase = given (phase-laid marks rest) (bodies.Phase (phase-in rest)) in
-    let edge = given (edge-laid marks rest) (bodies.Edge (edge-in marks rest)) in
-    let word = given (word-laid marks rest) (bodies.Word (word-in rest)) in
-    let path = given (path-laid marks rest) (bodies.Path (path-in rest)) in
-    let five = cond (eqb kind (kind-byte kinds.Path)) path None in
+-- the layout of each kind
+abbrev pub model-laid : ℕ → ℕ → List ℕ → Bool
+model-laid kind marks rest =
+    let station = station-laid marks rest in
+    let phase = phase-laid marks rest in
+    let edge = edge-laid marks rest in
+    let word = word-laid marks rest in
+    let path = path-laid marks rest in
+    let five = cond (eqb kind (kind-byte kinds.Path)) path false in
     let four = cond (eqb kind (kind-byte kinds.Word)) word five in
     let three = cond (eqb kind (kind-byte kinds.Edge)) edge four in
     let two = cond (eqb kind (kind-byte kinds.Phase)) phase three in
     cond (eqb kind (kind-byte kinds.Station)) station two
+
+-- what a record of each kind holds
+abbrev pub model-fields : ℕ → ℕ → List ℕ → ModelBody
+model-fields kind marks rest =
+    let station = bodies.Station (station-in rest) in
+    let phase = bodies.Phase (phase-in rest) in
+    let edge = bodies.Edge (edge-in marks rest) in
+    let word = bodies.Word (word-in rest) in
+    let path = bodies.Path (path-in rest) in
+    let four = cond (eqb kind (kind-byte kinds.Word)) word path in
+    let three = cond (eqb kind (kind-byte kinds.Edge)) edge four in
+    let two = cond (eqb kind (kind-byte kinds.Phase)) phase three in
+    cond (eqb kind (kind-byte kinds.Station)) station two
+
+abbrev pub model-body : ℕ → ℕ → List ℕ → Option ModelBody
+model-body kind marks rest = given (model-laid kind marks rest) (model-fields kind marks rest)
 
 -- a model record of 32 bytes, or nothing where the layout does not hold
 abbrev pub decoded-model : List ℕ → Option (Record ModelBody)
@@ -105,7 +121,7 @@ model-rest (bodies.Edge e) =
     two-bytes (e .goal) ++ (e .port ∷ e .lowest ∷ e .highest ∷ (replicate 3 0
     ++ (fraction-bytes (e .window .low) ++ (fraction-bytes (high-or no-fraction (e .window .high)) ++ replicate 4 0))))
 model-rest (bodies.Word w) = w .port ∷ w .value ∷ replicate 26 0
-model-rest (bodies.Path p) = p .sender ∷ p .«sender_port» ∷ p .hearer ∷ p .«hearer_port» ∷ replicate 24 0
+model-rest (bodies.Path p) = path-rest p
 
 -- the 32 bytes of a model record
 abbrev pub encoded-model : Record ModelBody → List ℕ

@@ -1,57 +1,117 @@
-// The fields that records of both kinds of book have.
+// The fields that records of both kinds of book have, read from the bytes behind the next index.
 ghost use mathlib.Core.Path.{_≡_};
-ghost use mathlib.Core.Bool.{cond};
-ghost use Prim.Native.Nat.{ℕ, _+_, _-_, _<_, _≤_};
-ghost use lib.ListN.{length};
-ghost use Rattle.book.specs.Bytes.{at, two, four, eight, zeros, four-bytes};
-ghost use Rattle.records.specs.Fields.{fraction-in, marked, high-end, window, window-laid, high-marks, high-or, window-marks, path-in, path-laid};
+ghost use mathlib.Core.Bool.{Bool};
+ghost use Rattle.records.specs.Fields.{window, window-laid, high-or, window-marks, path-in, path-laid, path-rest, row-bytes};
+ghost use Rattle.book.specs.declared.term.Kind.the-variants as kinds;
+use book::bytes::are_zero;
 use book::bytes::byte_at;
-use book::record::Fraction;
 use book::record::HighEnd;
 use book::record::Window;
 use book::term::Path;
 
-pub fn two_in(rest: &[u8], i: usize) -> u16
-    requires { ⌜ i + 1 < length (now rest) ⌝ }
-    ensures { λ r. ⌜ r ≡ two (now (rest .entry)) i ⌝ }
+// The window with those ends, by the marks.
+pub fn window_by<T: Copy>(marks: u8, low: T, high: T) -> Window<T>
+    ensures { λ r. ⌜ r ≡ window marks low high ⌝ }
 {
-    256 * u16::from(rest[i]) + u16::from(rest[i + 1])
-}
-
-pub fn four_in(rest: &[u8], i: usize) -> u32
-    requires { ⌜ i + 3 < length (now rest) ⌝ }
-    ensures { λ r. ⌜ r ≡ four (now (rest .entry)) i ⌝ }
-{
-    65536 * u32::from(two_in(rest, i)) + u32::from(two_in(rest, i + 2))
-}
-
-pub fn eight_in(rest: &[u8], i: usize) -> u64
-    requires { ⌜ i + 7 < length (now rest) ⌝ }
-    ensures { λ r. ⌜ r ≡ eight (now (rest .entry)) i ⌝ }
-{
-    4294967296 * u64::from(four_in(rest, i)) + u64::from(four_in(rest, i + 4))
-}
-
-// Whether the bytes from i up to, and without, j are zero.
-pub fn are_zero(rest: &[u8], i: usize, j: usize) -> bool
-    requires { ⌜ i ≤ j ⌝ ∗ ⌜ j ≤ length (now rest) ⌝ }
-    ensures { λ r. ⌜ r ≡ zeros (now (rest .entry)) i j ⌝ }
-{
-    for k in i..j {
-        if rest[k] != 0 {
-            return false;
-        }
+    let end = if marks / 4 % 2 == 1 {
+        HighEnd::Absent
+    } else if marks / 2 % 2 == 1 {
+        HighEnd::Open(high)
+    } else {
+        HighEnd::Closed(high)
+    };
+    Window {
+        low,
+        low_open: marks % 2 == 1,
+        high: end,
     }
-    true
 }
 
-// The fraction in bytes 12 to 19 or 20 to 27 of a record.
-pub fn fraction_in(rest: &[u8], i: usize) -> Fraction
-    requires { ⌜ i + 7 < length (now rest) ⌝ }
-    ensures { λ r. ⌜ r ≡ fraction-in (now (rest .entry)) (i + 4) ⌝ }
+// Whether those are marks of a window; `high_zero` tells whether its high end's bytes are zero.
+pub fn is_window_laid(marks: u8, high_zero: bool) -> bool
+    ensures { λ r. ⌜ r ≡ window-laid marks «high_zero» ⌝ }
 {
-    Fraction {
-        numerator: four_in(rest, i),
-        denominator: four_in(rest, i + 4),
+    marks <= 7 && (marks / 4 % 2 != 1 || marks / 2 % 2 != 1 && high_zero)
+}
+
+// The marks of a window.
+pub fn marks_of<T: Copy>(window: Window<T>) -> u8
+    ensures { λ r. ⌜ r ≡ window-marks window ⌝ }
+{
+    let high = match window.high {
+        HighEnd::Closed(_) => 0,
+        HighEnd::Open(_) => 2,
+        HighEnd::Absent => 4,
+    };
+    if window.low_open { 1 + high } else { high }
+}
+
+// The high end, or what stands for none.
+pub fn high_or<T: Copy>(none: T, high: HighEnd<T>) -> T
+    ensures { λ r. ⌜ r ≡ high-or none high ⌝ }
+{
+    match high {
+        HighEnd::Closed(end) => end,
+        HighEnd::Open(end) => end,
+        HighEnd::Absent => none,
     }
+}
+
+// A path.
+pub fn path_in(rest: &[u8]) -> Path
+    ensures { λ r. ⌜ r ≡ path-in (now (rest .entry)) ⌝ }
+{
+    Path {
+        sender: byte_at(rest, 0),
+        sender_port: byte_at(rest, 1),
+        hearer: byte_at(rest, 2),
+        hearer_port: byte_at(rest, 3),
+    }
+}
+
+pub fn is_path_laid(marks: u8, rest: &[u8]) -> bool
+    ensures { λ r. ⌜ r ≡ path-laid marks (now (rest .entry)) ⌝ }
+{
+    marks == 0 && are_zero(rest, 4, 28)
+}
+
+// The 32 bytes of a path, in either kind of book.
+pub fn path_row(next: u16, path: Path) -> [u8; 32]
+    ensures { λ r. ⌜ r ≡ row-bytes kinds.Path 0 next (path-rest path) ⌝ }
+{
+    let [n0, n1] = next.to_be_bytes();
+    [
+        5,
+        0,
+        n0,
+        n1,
+        path.sender,
+        path.sender_port,
+        path.hearer,
+        path.hearer_port,
+        0,
+        0,
+        0,
+        0,
+        0,
+        0,
+        0,
+        0,
+        0,
+        0,
+        0,
+        0,
+        0,
+        0,
+        0,
+        0,
+        0,
+        0,
+        0,
+        0,
+        0,
+        0,
+        0,
+        0,
+    ]
 }

@@ -28,6 +28,6 @@ pub trait Rows: Copy {
     fn decode(bytes: &[u8]) -> Option<Record<Self>>
         ensures { λ r. ⌜ r ≡ decoded (now (bytes .entry)) ⌝ };
 
-    fn encode(record: Record<Self>) -> [u8; 32]
-        ensures { λ r. ⌜ r ≡ encoded «record» ⌝ };
+    fn encode(item: Record<Self>) -> [u8; 32]
+        ensures { λ r. ⌜ r ≡ encoded item ⌝ };
 }
