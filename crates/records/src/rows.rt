@@ -8,6 +8,7 @@ ghost use Rattle.book.specs.declared.term.BookKind.{BookKind};
 ghost use Rattle.book.specs.declared.record.Record.{Record};
 ghost use Rattle.records.specs.Model.{decoded-model, encoded-model};
 ghost use Rattle.records.specs.Automaton.{decoded-automaton, encoded-automaton};
+ghost use Rattle.records.specs.Returns.{Model-records-return, Automaton-records-return};
 use book::record::Record;
 use book::term::BookKind;
 
@@ -30,4 +31,18 @@ pub trait Rows: Copy {
 
     fn encode(item: Record<Self>) -> [u8; 32]
         ensures { λ r. ⌜ r ≡ encoded item ⌝ };
+}
+
+// Model records come back, written and read, and read and written.
+pub fn model_records_return() -> u8
+    ensures { λ _. ⌜ Model-records-return ⌝ }
+{
+    0
+}
+
+// Automaton records come back, written and read, and read and written.
+pub fn automaton_records_return() -> u8
+    ensures { λ _. ⌜ Automaton-records-return ⌝ }
+{
+    0
 }
