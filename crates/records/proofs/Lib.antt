@@ -5,3 +5,4 @@ pub mod Windows
 pub mod ReadsBack
 pub mod Spelled
 pub mod WritesBack
+pub mod Written

@@ -3,7 +3,7 @@ use mathlib.Core.Bool.{Bool, true, false, cond, _||_}
 use mathlib.Core.List.{List, [], _∷_, _++_}
 use Prim.Native.Nat.{ℕ, _+_, _*_, min}
 use lib.Dec.{eqb, ltb}
-use lib.ListN.{length, replicate}
+use lib.ListN.{length, replicate, take, drop}
 use Rattle.std.specs.declared.option.Option.{Option}
 use Rattle.std.specs.declared.option.Option.the-variants.{Some, None}
 use Rattle.std.specs.declared.result.Result.{Result}
@@ -50,3 +50,12 @@ write-answer kind n room =
     let written = Ok (32 * (n + 1)) in
     let fits = cond (ltb room (32 * (n + 1))) (Err (refused faults.Room 0)) written in
     cond (eqb n 0 || ltb (most-records kind) n) (Err (refused faults.Head 0)) fits
+
+-- the buffer with a row put in at record k
+abbrev pub put-row : List ℕ → ℕ → List ℕ → List ℕ
+put-row out k r = take (32 * k) out ++ (r ++ drop (32 * k + 32) out)
+
+-- the buffer with the rows of records put in from record k on
+abbrev pub put-rows : {B : Type 0} → (Record B → List ℕ) → List ℕ → ℕ → List (Record B) → List ℕ
+put-rows encoded out k [] = out
+put-rows encoded out k (x ∷ xs) = put-rows encoded (put-row out k (encoded x)) (k + 1) xs

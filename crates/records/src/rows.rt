@@ -23,6 +23,9 @@ pub trait Rows: Copy {
     // the 32 bytes of a record
     ghost encoded: { Record Self → List ℕ };
 
+    // every row has 32 bytes
+    law long: { (x : Record Self) → length (encoded x) ≡ 32 };
+
     fn kind() -> BookKind
         ensures { λ r. ⌜ r ≡ kind ⌝ };
 
