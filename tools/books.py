@@ -7,7 +7,7 @@
     books.py largest FILE            a lawful model book of 1,000 records, 16 stations
     books.py crowded FILE            a lawful model book of 1,000 records, nearly all of them edges of one phase
     books.py largest-automaton FILE  a lawful automaton book of 2,000 records, 16 automata
-    books.py hostile FILE CASE       2,000 automaton records made to be slow; without CASE the cases are listed
+    books.py hostile FILE CASE       2,000 automaton records made to be slow; 'hostile' alone lists the cases
     books.py judge FILE..            'ok', or the refusal that the structure of a book gets (1 to 4), a line for each
     books.py fuzz DIR COUNT SEED     COUNT books, most of them damaged, and DIR/expected: a line 'NAME ANSWER' for each
 
@@ -757,6 +757,8 @@ def main() -> int:
     elif asked.command == "hostile":
         if asked.case:
             write(asked.file, HOSTILE[asked.case]())
+        elif asked.file:
+            parser.error("hostile: which case? " + ", ".join(HOSTILE))
         else:
             for name, make in HOSTILE.items():
                 print("%-15s %s" % (name, make.__doc__))
