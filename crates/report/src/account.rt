@@ -1,0 +1,2 @@
+// An account of a book.
+use book::bytes::two_at;
