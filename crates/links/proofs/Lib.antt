@@ -1,1 +1,5 @@
+pub mod Counting
+pub mod Chains
+pub mod Members
+pub mod Meeting
 

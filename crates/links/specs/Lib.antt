@@ -2,3 +2,5 @@ pub mod Fields
 pub mod Walks
 pub mod Naming
 pub mod Reached
+pub mod Queues
+pub mod Reaches
