@@ -2,4 +2,4 @@ pub mod Counting
 pub mod Chains
 pub mod Members
 pub mod Meeting
-
+pub mod Closure

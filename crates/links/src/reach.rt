@@ -1,16 +1,14 @@
 // What is reached from a book's head.
 ghost use mathlib.Core.Path.{_≡_};
-ghost use mathlib.Core.Bool.{Bool, false};
-ghost use mathlib.Core.List.{List};
-ghost use Prim.Native.Nat.{ℕ, _+_, _<_, _≤_};
-ghost use lib.ListN.{length, getD, take, drop};
+ghost use mathlib.Core.Bool.{false};
+ghost use Prim.Native.Nat.{_≤_};
+ghost use lib.ListN.{length, take, replicate};
 ghost use Rattle.std.specs.Vec.{made};
-ghost use Rattle.book.specs.Chains.{whole-records};
-ghost use Rattle.links.specs.Fields.{links-of};
 ghost use Rattle.links.specs.Naming.{met, met-all};
 ghost use Rattle.links.specs.Queues.{Queue, Grown};
 ghost use Rattle.links.specs.Reached.{Reach-is-least};
 ghost use Rattle.links.specs.Reaches.{reach-answer, reach-list, reach-marks};
+ghost use Rattle.links.specs.Walks.{filled};
 
 use super::link::Link;
 use super::link::Linked;
@@ -45,6 +43,14 @@ fn meet_all(list: &mut [u16], marks: &mut [bool], start: usize, n: usize, links:
     count
 }
 
+// The first k marks unset; the later ones stay.
+fn unmark(marks: &mut [bool], k: usize)
+    requires { ⌜ k ≤ length (now marks) ⌝ }
+    ensures { λ _. ⌜ now (marks .exit) ≡ filled (replicate k false) (now (marks .entry)) ⌝ }
+{
+    marks[0..k].fill(false);
+}
+
 // The head and the records that are reached from it through index fields, into the first slots of
 // the list, in the order in which they are met; answers how many. The mark of each of the book's
 // whole records, and of the head, then tells whether it is one of these. Both lists need a slot for
@@ -62,7 +68,7 @@ pub fn reach<R: Linked>(book: &[u8], list: &mut [u16], marks: &mut [bool]) -> Re
             place: 0,
         });
     }
-    marks[0..records + 1].fill(false);
+    unmark(marks, records + 1);
     marks[0] = true;
     list[0] = 0;
     let mut count = 1;
