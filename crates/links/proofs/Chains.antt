@@ -63,8 +63,7 @@ module _ (next : ℕ → ℕ) (n first : ℕ) (old list : List ℕ) where
   walked-all c i w fits none =
       let all = chain next n n first in
       let whole : take c list ≡ all = sym (append-nil (take c list)) ∙ ap (λ l. take c list ++ l) (sym none) ∙ w .split in
-      let count : c ≡ length all = sym (sym (ap length whole) ∙ length-take-le c list (omega (arith, w .long, w .room))) in
-      (
+      let count : c ≡ length all = sym (sym (ap length whole) ∙ length-take-le c list (omega (arith, w .long, w .room))) in (
         count,
         sym (take-append-drop c list) ∙ ap (λ l. l ++ drop c list) whole ∙ ap (λ l. all ++ l) (w .later) ∙ ap (λ k. all ++ drop k old) count,
       )

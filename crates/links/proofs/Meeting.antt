@@ -112,6 +112,7 @@ grown-twice n a list marks seen b list′ marks′ seen′ c list″ marks″ on
 
 -- what is looked at in the search, before the record at place p is: `old` and `old-marks` are the lists before it
 pub record Reaching (links : ℕ → List Link) (n : ℕ) (old : List ℕ) (old-marks : List Bool) (p count : ℕ) (list : List ℕ) (marks : List Bool) : Type 0 where
+  pub some : 0 < count
   pub queue : Queue n count list marks
   pub spreads : spread links n (n + 1 - p) p (take count list) ≡ reached links n
   pub later : drop count list ≡ drop count old
@@ -125,36 +126,81 @@ module _ (links : ℕ → List Link) (n : ℕ) where
   pub spread-more : (k p : ℕ) (seen : List ℕ) → p < length seen → spread links n (suc k) p seen ≡ spread links n k (p + 1) (met-all n seen (links (getD seen p 0)))
   spread-more k p seen h = ap (λ t. cond t (spread links n k (p + 1) (met-all n seen (links (getD seen p 0)))) seen) (lt-ltb p (length seen) h)
 
-module _ (links : ℕ → List Link) (n : ℕ) (old : List ℕ) (old-marks : List Bool) where
-  -- the search begins with the head alone
-  pub reaching-none : n < length old → n < length old-marks → Reaching links n old old-marks 0 1 (set old 0 0) (set (filled (replicate (n + 1) false) old-marks) 0 true)
-  reaching-none room marks-room =
+-- the search begins with the head alone, in an unmarked list
+module _ (links : ℕ → List Link) (n : ℕ) (old : List ℕ) (old-marks : List Bool) (room : n < length old) (marks-room : n < length old-marks) where
+  abbrev list₀ : List ℕ
+  list₀ = set old 0 0
+
+  abbrev unmarked : List Bool
+  unmarked = filled (replicate (n + 1) false) old-marks
+
+  abbrev marks₀ : List Bool
+  marks₀ = set unmarked 0 true
+
+  first : take 1 list₀ ≡ 0 ∷ []
+  first = take-more-set old 0 0 (omega arith)
+
+  wide : length unmarked ≡ length old-marks
+  wide =
+      let clear : List Bool = replicate (n + 1) false in
+      omega (arith, length-append clear (drop (length clear) old-marks), length-drop (length clear) old-marks, length-replicate (n + 1) false)
+
+  marked-none : (k : ℕ) → k ≤ n → getD marks₀ k false ≡ member k (take 1 list₀)
+  marked-none k h =
       let clear : List Bool = replicate (n + 1) false in
       let long : length clear ≡ n + 1 = length-replicate (n + 1) false in
-      let rest : List Bool = drop (length clear) old-marks in
-      let first : take 1 (set old 0 0) ≡ 0 ∷ [] = take-more-set old 0 0 (omega arith) in
+      ⊎-elim
+      (λ (at-head : k ≡ 0).
+      subst (λ j. getD marks₀ j false ≡ member j (take 1 list₀)) (sym at-head)
+      (getD-set-same unmarked 0 true false (omega (arith, wide)) ∙ ap (member 0) (sym first)))
+      (λ (other : k ≡ 0 → ⊥).
+      getD-set-other unmarked 0 k true false other
+      ∙ getD-append-left clear (drop (length clear) old-marks) false k (omega arith)
+      ∙ getD-replicate (n + 1) k false false (omega arith)
+      ∙ sym (ap (member k) first ∙ or-from (eqb 0 k) false (ne-eqb 0 k (λ e. other (sym e))) refl))
+      (cases-eq k 0)
+
+  reaching-none : Reaching links n list₀ marks₀ 0 1 list₀ marks₀
+  reaching-none =
       let all : n + 1 - 0 ≡ n + 1 = omega arith in
-      let wide : length (clear ++ rest) ≡ length old-marks = omega (arith, length-append clear rest, length-drop (length clear) old-marks) in
       record {
+        some = omega arith;
         queue = record {
           within = omega (arith, length-set old 0 0);
           room = omega (arith, length-set old 0 0);
-          marks-room = omega (arith, length-set (clear ++ rest) 0 true, wide);
+          marks-room = omega (arith, length-set unmarked 0 true, wide);
           apart = subst (Apart n) (sym first) (apart-head n);
-          marked = λ k h. ⊎-elim
-              (λ (at-head : k ≡ 0). subst (λ j. getD (set (clear ++ rest) 0 true) j false ≡ member j (take 1 (set old 0 0))) (sym at-head)
-              (getD-set-same (clear ++ rest) 0 true false (omega arith) ∙ ap (member 0) (sym first)))
-              (λ (other : k ≡ 0 → ⊥). getD-set-other (clear ++ rest) 0 k true false other
-              ∙ getD-append-left clear rest false k (omega arith)
-              ∙ getD-replicate (n + 1) k false false (omega arith)
-              ∙ sym (ap (member k) first ∙ or-from (eqb 0 k) false (ne-eqb 0 k (λ e. other (sym e))) refl))
-              (cases-eq k 0);
+          marked = marked-none;
         };
         spreads = ap (λ s. spread links n (n + 1 - 0) 0 s) first ∙ ap (λ k. spread links n k 0 (0 ∷ [])) all;
-        later = drop-set-lt 1 old 0 0 (omega arith);
-        marks-later = drop-set-lt (n + 1) (clear ++ rest) 0 true (omega arith) ∙ drop-at clear rest (n + 1) long ∙ ap (λ k. drop k old-marks) long;
+        later = refl;
+        marks-later = refl;
       }
 
+  -- what lies behind is then as it was before the beginning
+  reaching-from : (p count : ℕ) (list : List ℕ) (marks : List Bool) → Reaching links n list₀ marks₀ p count list marks → Reaching links n old old-marks p count list marks
+  reaching-from p count list marks r =
+      let clear : List Bool = replicate (n + 1) false in
+      let long : length clear ≡ n + 1 = length-replicate (n + 1) false in
+      record {
+        some = r .some;
+        queue = r .queue;
+        spreads = r .spreads;
+        later = r .later ∙ drop-set-lt count old 0 0 (omega (arith, r .some));
+        marks-later = r .marks-later
+            ∙ drop-set-lt (n + 1) unmarked 0 true (omega arith)
+            ∙ drop-at clear (drop (length clear) old-marks) (n + 1) long
+            ∙ ap (λ k. drop k old-marks) long;
+      }
+
+  -- the same, with a name for the unmarked list
+  pub reaching-start : (m : List Bool) → m ≡ unmarked → Reaching links n list₀ (set m 0 true) 0 1 list₀ (set m 0 true)
+  reaching-start m e = subst (λ m. Reaching links n list₀ (set m 0 true) 0 1 list₀ (set m 0 true)) (sym e) reaching-none
+
+  pub reaching-whole : (m : List Bool) → m ≡ unmarked → (p count : ℕ) (list : List ℕ) (marks : List Bool) → Reaching links n list₀ (set m 0 true) p count list marks → Reaching links n old old-marks p count list marks
+  reaching-whole m e p count list marks r = reaching-from p count list marks (subst (λ m. Reaching links n list₀ (set m 0 true) p count list marks) e r)
+
+module _ (links : ℕ → List Link) (n : ℕ) (old : List ℕ) (old-marks : List Bool) where
   -- one record more is looked at
   pub reaching-more : (p count : ℕ) (list : List ℕ) (marks : List Bool) (ls : List Link) (more : ℕ) (list′ : List ℕ) (marks′ : List Bool)
       → Reaching links n old old-marks p count list marks → p < count → ls ≡ links (getD list p 0) → Grown n count list marks (met-all n (take count list) ls) more list′ marks′
@@ -164,6 +210,7 @@ module _ (links : ℕ → List Link) (n : ℕ) (old : List ℕ) (old-marks : Lis
       let long : length seen ≡ count = length-take-le count list (r .queue .within) in
       let few : count ≤ n + 1 = queue-few n count list marks (r .queue) in
       record {
+        some = omega (arith, g .grows, r .some);
         queue = g .queue;
         spreads = ap (spread links n (n + 1 - (p + 1)) (p + 1)) (g .slots ∙ ap (met-all n seen) (is ∙ ap links (sym (getD-take count list p 0 h))))
             ∙ sym (ap (λ k. spread links n k p seen) (one-less (n + 1) p (omega arith)) ∙ spread-more links n _ p seen (omega arith))
@@ -184,8 +231,7 @@ module _ (links : ℕ → List Link) (n : ℕ) (old : List ℕ) (old-marks : Lis
       let front : take (n + 1) marks ≡ marks-of all n = fill-by-all (λ k. member k all) (take (n + 1) marks) (n + 1) false (length-take-le (n + 1) marks (omega (arith, q .marks-room)))
       (λ k low. getD-take (n + 1) marks k false low ∙ q .marked k (omega arith) ∙ ap (member k) whole) in
       let wide : n + 1 ≡ length (marks-of all n) = sym (length-map-counting (λ k. member k all) 0 (n + 1)) in
-      let count-is : count ≡ length all = sym long ∙ ap length whole in
-      (
+      let count-is : count ≡ length all = sym long ∙ ap length whole in (
         count-is,
         sym (take-append-drop count list) ∙ ap (λ l. l ++ drop count list) whole ∙ ap (λ l. all ++ l) (r .later) ∙ ap (λ k. all ++ drop k old) count-is,
         sym (take-append-drop (n + 1) marks) ∙ ap (λ l. l ++ drop (n + 1) marks) front ∙ ap (λ l. marks-of all n ++ l) (r .marks-later) ∙ ap (λ k. marks-of all n ++ drop k old-marks) wide,

@@ -6,7 +6,6 @@ ghost use Prim.Native.Nat.{ℕ};
 ghost use Rattle.book.specs.Chains.{next-index};
 ghost use Rattle.links.specs.declared.link.Link.{Link};
 ghost use Rattle.links.specs.Fields.{link, model-links, automaton-links, head-links, links-of};
-
 use book::bytes::byte_at;
 use book::bytes::row_of;
 use book::bytes::take_apart;
@@ -118,5 +117,9 @@ pub fn links_of<R: Linked>(book: &[u8], i: u16) -> [Link; 3]
     ensures { λ r. ⌜ r ≡ links-of (R·Linked .links) (now (book .entry)) i ⌝ }
 {
     let row = row_of(book, i);
-    if i == 0 { head_links(row) } else { R::links(row) }
+    if i == 0 {
+        head_links(row)
+    } else {
+        R::links(row)
+    }
 }

@@ -9,7 +9,6 @@ ghost use Rattle.links.specs.Queues.{Queue, Grown};
 ghost use Rattle.links.specs.Reached.{Reach-is-least};
 ghost use Rattle.links.specs.Reaches.{reach-answer, reach-list, reach-marks};
 ghost use Rattle.links.specs.Walks.{filled};
-
 use super::link::Link;
 use super::link::Linked;
 use super::link::links_of;

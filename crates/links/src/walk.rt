@@ -4,7 +4,6 @@ ghost use Prim.Native.Nat.{ℕ, _≤_};
 ghost use lib.ListN.{length};
 ghost use Rattle.std.specs.Vec.{made};
 ghost use Rattle.links.specs.Walks.{walk-answer, walk-list};
-
 use super::link::Linked;
 use book::bytes::row_of;
 use book::refusal::Fault;
