@@ -4,7 +4,7 @@ ghost use mathlib.Core.Bool.{Bool};
 ghost use mathlib.Core.List.{List};
 ghost use Prim.Native.Nat.{ℕ, _≤_};
 ghost use Rattle.std.specs.declared.result.Result.the-variants.{Ok};
-ghost use Rattle.structure.specs.Search.{first-of, Search-finds-smallest};
+ghost use Rattle.structure.specs.Search.{first-of};
 ghost use Rattle.structure.specs.Structure.{unless, at-0};
 
 use book::refusal::Fault;
@@ -51,11 +51,4 @@ pub fn whole_book(wrong: bool) -> Option<u16>
     ensures { λ r. ⌜ r ≡ at-0 wrong ⌝ }
 {
     if wrong { Some(0) } else { None }
-}
-
-// The search finds the smallest record that breaks a rule, or that none does.
-pub fn search_finds_smallest() -> u8
-    ensures { λ _. ⌜ Search-finds-smallest ⌝ }
-{
-    0
 }
