@@ -71,13 +71,15 @@ pub fn structure(book: &[u8]) -> Result<BookKind, Refusal>
     ensures { λ r. ⌜ r ≡ structure-of (now (book .entry)) ⌝ }
 {
     refuse(Fault::Length, whole_book(has_wrong_length(book)))?;
-    match BookKind::from_byte(byte_at(book, 0)) {
-        Some(BookKind::Model) => structure_by::<ModelBody>(book),
-        Some(BookKind::Automaton) => structure_by::<AutomatonBody>(book),
-        None => Err(Refusal {
+    let Some(kind) = BookKind::from_byte(byte_at(book, 0)) else {
+        return Err(Refusal {
             fault: Fault::Head,
             place: 0,
-        }),
+        });
+    };
+    match kind {
+        BookKind::Model => structure_by::<ModelBody>(book),
+        BookKind::Automaton => structure_by::<AutomatonBody>(book),
     }
 }
 
