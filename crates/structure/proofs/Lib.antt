@@ -1,0 +1,5 @@
+pub mod Searching
+pub mod Counts
+pub mod Marking
+pub mod Stages
+pub mod Soundness
