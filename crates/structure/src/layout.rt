@@ -2,7 +2,6 @@
 ghost use mathlib.Core.Path.{_≡_};
 ghost use Rattle.std.specs.Options.{isSome};
 ghost use Rattle.structure.specs.Faults.{head-laid, unlaid};
-
 use super::rule::Rule;
 use book::bytes::are_zero;
 use book::bytes::row_of;

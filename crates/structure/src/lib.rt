@@ -8,6 +8,7 @@ ghost use Rattle.structure.specs.Search.{Search-finds-smallest};
 ghost use Rattle.structure.specs.Sound.{Passes-sound};
 ghost use Rattle.structure.specs.Structure.{structure-by, structure-of};
 
+pub mod contents;
 mod layout;
 mod linking;
 mod rule;

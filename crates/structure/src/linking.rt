@@ -8,7 +8,6 @@ ghost use Rattle.links.specs.Fields.{links-of};
 ghost use Rattle.structure.specs.Faults.{told-records, wrong-link, some-link};
 ghost use Rattle.structure.specs.Structure.{unless, first-ill-linked};
 ghost use Rattle.structure.specs.Tables.{Counted-on, Counted, ill-linked-by};
-
 use super::rule::Rule;
 use super::rule::first_broken;
 use super::rule::refuse;

@@ -6,7 +6,6 @@ ghost use Prim.Native.Nat.{ℕ, _≤_};
 ghost use Rattle.std.specs.declared.result.Result.the-variants.{Ok};
 ghost use Rattle.structure.specs.Search.{first-of};
 ghost use Rattle.structure.specs.Structure.{unless, at-0};
-
 use book::refusal::Fault;
 use book::refusal::Refusal;
 
