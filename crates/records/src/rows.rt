@@ -8,6 +8,7 @@ ghost use Rattle.book.specs.declared.term.BookKind.{BookKind};
 ghost use Rattle.book.specs.declared.record.Record.{Record};
 ghost use Rattle.records.specs.Model.{decoded-model, encoded-model};
 ghost use Rattle.records.specs.Automaton.{decoded-automaton, encoded-automaton};
+ghost use Rattle.records.specs.Returns.{Model-records-return, Automaton-records-return, Model-books-return, Automaton-books-return};
 use book::record::Record;
 use book::term::BookKind;
 
@@ -22,6 +23,9 @@ pub trait Rows: Copy {
     // the 32 bytes of a record
     ghost encoded: { Record Self → List ℕ };
 
+    // every row has 32 bytes
+    law long: { (x : Record Self) → length (encoded x) ≡ 32 };
+
     fn kind() -> BookKind
         ensures { λ r. ⌜ r ≡ kind ⌝ };
 
@@ -30,4 +34,20 @@ pub trait Rows: Copy {
 
     fn encode(item: Record<Self>) -> [u8; 32]
         ensures { λ r. ⌜ r ≡ encoded item ⌝ };
+}
+
+// Model records and books come back, written and read, and read and written.
+pub fn model_books_return() -> u8
+    ensures records { λ _. ⌜ Model-records-return ⌝ }
+    ensures books { λ _. ⌜ Model-books-return ⌝ }
+{
+    0
+}
+
+// Automaton records and books come back, written and read, and read and written.
+pub fn automaton_books_return() -> u8
+    ensures records { λ _. ⌜ Automaton-records-return ⌝ }
+    ensures books { λ _. ⌜ Automaton-books-return ⌝ }
+{
+    0
 }
