@@ -87,7 +87,10 @@ fn phase_text(heap: Global, phase: Phase) -> Result<String, AllocError> {
     let next = phase.next_phase;
     let word = phase.first_word;
     let lifetime = lifetime_text(heap, phase.lifetime)?;
-    format!(heap, "first edge {edge}, next phase {next}, first word {word}, {lifetime}")
+    format!(
+        heap,
+        "first edge {edge}, next phase {next}, first word {word}, {lifetime}"
+    )
 }
 
 fn edge_text(heap: Global, edge: Edge) -> Result<String, AllocError> {
@@ -96,7 +99,10 @@ fn edge_text(heap: Global, edge: Edge) -> Result<String, AllocError> {
     let lowest = edge.lowest;
     let highest = edge.highest;
     let window = seconds_text(heap, edge.window)?;
-    format!(heap, "goal {goal}, port {port}, values {lowest} to {highest}, window {window}")
+    format!(
+        heap,
+        "goal {goal}, port {port}, values {lowest} to {highest}, window {window}"
+    )
 }
 
 // A model record's kind and fields.
@@ -105,7 +111,10 @@ fn model_text(heap: Global, next: u16, body: ModelBody) -> Result<String, AllocE
         ModelBody::Station(station) => {
             let first = station.first_phase;
             let opening = station.opening;
-            format!(heap, "station: next {next}, first phase {first}, opening {opening}")
+            format!(
+                heap,
+                "station: next {next}, first phase {first}, opening {opening}"
+            )
         }
         ModelBody::Phase(phase) => {
             let text = phase_text(heap, phase)?;
@@ -139,8 +148,15 @@ fn location_text(heap: Global, location: Location) -> Result<String, AllocError>
     let phase = location.phase;
     let sent = location.sent;
     let bound = bound_text(heap, location.bound)?;
-    let marks = if location.committed { ", committed" } else { "" };
-    format!(heap, "first transition {first}, phase {phase}, words sent {sent}, {bound}{marks}")
+    let marks = if location.committed {
+        ", committed"
+    } else {
+        ""
+    };
+    format!(
+        heap,
+        "first transition {first}, phase {phase}, words sent {sent}, {bound}{marks}"
+    )
 }
 
 fn label_text(heap: Global, label: Label) -> Result<String, AllocError> {
@@ -159,7 +175,11 @@ fn transition_text(heap: Global, transition: Transition) -> Result<String, Alloc
     let goal = transition.goal;
     let label = label_text(heap, transition.label)?;
     let guard = ticks_text(heap, transition.guard)?;
-    let reset = if transition.resets { ", resets the clock" } else { "" };
+    let reset = if transition.resets {
+        ", resets the clock"
+    } else {
+        ""
+    };
     format!(heap, "goal {goal}, {label}, guard {guard}{reset}")
 }
 
@@ -170,7 +190,10 @@ fn automaton_text(heap: Global, next: u16, body: AutomatonBody) -> Result<String
             let first = automaton.first_location;
             let opening = automaton.opening;
             let scale = automaton.scale;
-            format!(heap, "automaton: next {next}, first location {first}, opening {opening}, scale {scale}")
+            format!(
+                heap,
+                "automaton: next {next}, first location {first}, opening {opening}, scale {scale}"
+            )
         }
         AutomatonBody::Location(location) => {
             let text = location_text(heap, location)?;

@@ -13,12 +13,14 @@ use Rattle.std.proofs.shelf.Tests.{lt-ltb, le-ltb}
 use Rattle.book.specs.Bytes.{two}
 use Rattle.book.specs.Chains.{whole-records, chain-of}
 use Rattle.book.specs.Refusals.{refused}
+use Rattle.book.specs.Terms.{most-records}
 use Rattle.book.specs.declared.refusal.Fault.the-variants.{Room}
 use Rattle.book.specs.declared.refusal.Refusal.{Refusal}
 use Rattle.book.specs.declared.term.BookKind.{BookKind}
 use Rattle.book.specs.declared.term.BookKind.the-variants.{Model, Automaton}
 use Rattle.book.specs.declared.term.Path.{Path}
 use Rattle.links.specs.Walks.{filled, short, walk-answer, walk-list}
+use Rattle.structure.specs.Faults.{told-records}
 use Rattle.structure.specs.Structure.{structure-of}
 use Rattle.structure.specs.Heads.{then, path-at, paths-in, few-slots, paths-answer, paths-list, listed-by}
 use Rattle.structure.proofs.Marking.{all-whole}
@@ -43,6 +45,18 @@ module _ (b : List ℕ) (first : ℕ) (slots : List ℕ) where
       go : (t : Bool) → short b slots ≡ t → Ok count ≡ cond t (Err (refused Room 0)) (Ok (length all)) → (count ≡ length all) × (take count (cond t slots (filled all slots)) ≡ all)
       go true _ f = no-ok (sym f)
       go false _ f = let same : count ≡ length all = cc f in (same, take-at all (drop (length all) slots) count (sym same))
+
+-- the walk in a book whose structure is right has room in 2,000 slots
+pub walk-goes : (b : List ℕ) (kind : BookKind) (first : ℕ) (slots : List ℕ) (e : Refusal) → structure-of b ≡ Ok kind → 2000 ≤ length slots → Err e ≡ walk-answer b first slots → ⊥
+walk-goes b kind first slots e right room declined =
+    let s = passes-sound b kind .0 right in
+    let most : most-records kind ≤ 2000 = most-2000 kind in
+    let long : short b slots ≡ false = le-ltb (length slots) (whole-records b) (omega (arith, all-whole b (told-records b) (s .whole), s .few-records)) in
+    no-ok (declined ∙ ap (λ t. cond t (Err (refused Room 0)) (Ok (length (chain-of b first)))) long)
+  where
+    most-2000 : (kind : BookKind) → most-records kind ≤ 2000
+    most-2000 Model = omega arith
+    most-2000 Automaton = omega arith
 
 -- the paths of a book whose structure is right, in a list with a slot for each
 module _ (b : List ℕ) (kind : BookKind) (sound : structure-of b ≡ Ok kind) (list : List Path) where
