@@ -3,3 +3,5 @@ pub mod Counts
 pub mod Marking
 pub mod Stages
 pub mod Soundness
+pub mod Filling
+pub mod Told

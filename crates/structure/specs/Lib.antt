@@ -4,3 +4,4 @@ pub mod Structure
 pub mod Tables
 pub mod Sound
 pub mod Heads
+pub mod Examples

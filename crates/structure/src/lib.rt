@@ -3,11 +3,13 @@ ghost use mathlib.Core.Path.{_≡_};
 ghost use Prim.Native.Nat.{_+_, _*_};
 ghost use lib.ListN.{length};
 ghost use Rattle.std.specs.Options.{isSome};
+ghost use Rattle.structure.specs.Examples.{Examples-stand};
 ghost use Rattle.structure.specs.Faults.{told-records, wrong-length, wrong-head};
 ghost use Rattle.structure.specs.Search.{Search-finds-smallest};
 ghost use Rattle.structure.specs.Sound.{Passes-sound};
 ghost use Rattle.structure.specs.Structure.{structure-by, structure-of};
 
+pub mod contents;
 mod layout;
 mod linking;
 mod rule;
@@ -93,6 +95,13 @@ pub fn search_finds_smallest() -> u8
 // The books that pass are just the sound ones.
 pub fn passes_sound() -> u8
     ensures { λ _. ⌜ Passes-sound ⌝ }
+{
+    0
+}
+
+// The relay's book and some damaged copies of it, by evaluation of the definitions.
+pub fn examples_stand() -> u8
+    ensures { λ _. ⌜ Examples-stand ⌝ }
 {
     0
 }
