@@ -1,0 +1,12 @@
+pub mod Times
+pub mod Trees
+pub mod Scales
+pub mod Fits
+pub mod Machine
+pub mod Meanings
+pub mod Net
+pub mod Calls
+pub mod Print
+pub mod Runs
+pub mod ModelRules
+pub mod AutomatonRules
