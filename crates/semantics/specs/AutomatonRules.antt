@@ -11,7 +11,8 @@ use Rattle.semantics.specs.Times.{Fraction, same-time, plus, over, whole, zero
 use Rattle.semantics.specs.Trees.{Word, Label, Silent, Hears, Sends, Transition, Location, location-at, Automaton, AutomatonNet, automaton-at}
 use Rattle.semantics.specs.Scales.{automaton-scale}
 use Rattle.semantics.specs.Fits.{transition-fits, within-bound}
-use Rattle.semantics.specs.Runs.{Act, Event, Rules, Run}
+use Rattle.semantics.specs.Events.{Event}
+use Rattle.semantics.specs.Runs.{Act, Rules, Run}
 use Rattle.semantics.specs.ModelRules.{Any}
 
 -- the location's place, and the clock

@@ -4,9 +4,12 @@ pub mod Scales
 pub mod Fits
 pub mod Machine
 pub mod Meanings
+pub mod Events
 pub mod Net
 pub mod Calls
 pub mod Print
 pub mod Runs
 pub mod ModelRules
 pub mod AutomatonRules
+pub mod Faithful
+pub mod Relay

@@ -14,7 +14,8 @@ use Rattle.semantics.specs.Times.{Fraction, at-most, same-time, plus, over, ze
 use Rattle.semantics.specs.Trees.{Word, Edge, Phase, endless, lasting, lifetime-of, words-of, edges-of, phase-at, Station, ModelNet, station-at}
 use Rattle.semantics.specs.Scales.{model-scale}
 use Rattle.semantics.specs.Fits.{edge-fits}
-use Rattle.semantics.specs.Runs.{Act, Event, Rules, Run}
+use Rattle.semantics.specs.Events.{Event}
+use Rattle.semantics.specs.Runs.{Act, Rules, Run}
 
 -- some element has the property
 abbrev pub Any : {A : Type 0} → (A → Type 0) → List A → Type 0

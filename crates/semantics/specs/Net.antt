@@ -6,12 +6,10 @@ use mathlib.Core.Bool.{Bool, true, false, cond, not, _&&_}
 use mathlib.Core.List.{List, [], _∷_, _++_, map}
 use Rattle.std.specs.declared.option.Option.{Option}
 use Rattle.std.specs.declared.option.Option.the-variants.{Some, None}
-pub use Rattle.book.specs.declared.event.Event.{Event}
-pub use Rattle.book.specs.declared.event.EventKind.{EventKind}
-pub use Rattle.book.specs.declared.event.EventKind.the-variants.{Arrival, External, Output, Internal, Created}
 pub use Rattle.semantics.specs.declared.state.StationState.{StationState}
 use Rattle.semantics.specs.Times.{Order}
 use Rattle.semantics.specs.Trees.{Word, Path}
+use Rattle.semantics.specs.Events.{Event, event, leaves, Arrival, External, Output, Internal}
 use Rattle.semantics.specs.Machine.{Move, Stance, StationMeaning, Meaning}
 
 -- A net: its stations' meanings, geared to the net scale, its order, and its parts per net tick.
@@ -27,9 +25,6 @@ pub record NetState : Type 0 where
 
 abbrev pub in-stance : ℕ → ℕ → StationState
 in-stance s e = record { stance = s; elapsed = e }
-
-abbrev pub event : EventKind → ℕ → ℕ → ℕ → Event
-event k s p v = record { kind = k; station = s; port = p; value = v }
 
 -- What stands at a place of the lists, counted from 0: place i is station i + 1. Past the end stands a blank, which a
 -- net never comes to.
@@ -89,10 +84,6 @@ heard ms σ h port v (Some s) =
 abbrev pub arrive : Meaning → ℕ → List StationState → ℕ → ℕ → ℕ → Passed
 arrive ms q σ zero port v = passed (event Arrival 0 port v ∷ []) σ
 arrive ms q σ (suc h) port v = heard ms σ h port v (stance-at ms σ h .hears port v (state-at σ h .elapsed) q)
-
--- the path leaves from that station, or the outside, and port
-abbrev pub leaves : Path → ℕ → ℕ → Bool
-leaves p from port = eqb (p .sender) from && eqb (p .«sender_port») port
 
 -- Delivery takes the paths from a station's port in their order; one that is written twice delivers twice. What is
 -- heard sends nothing on.

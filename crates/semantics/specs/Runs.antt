@@ -7,11 +7,9 @@ use mathlib.Core.List.{List, [], _∷_, _++_}
 use mathlib.Core.Path.{_≡_}
 use Rattle.std.specs.declared.option.Option.{Option}
 use Rattle.std.specs.declared.option.Option.the-variants.{Some, None}
-pub use Rattle.book.specs.declared.event.Event.{Event}
-use Rattle.book.specs.declared.event.EventKind.the-variants.{Arrival, External, Output, Internal}
 use Rattle.semantics.specs.Times.{Fraction, Proper, Order, StepFirst}
 use Rattle.semantics.specs.Trees.{Word, Path}
-use Rattle.semantics.specs.Net.{event, leaves}
+use Rattle.semantics.specs.Events.{Event, event, leaves, Arrival, External, Output, Internal}
 
 -- What may be done with a net: a word from outside, a step, or a delay in net ticks.
 pub data Act : Type 0 where
