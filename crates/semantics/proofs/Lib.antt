@@ -1,0 +1,2 @@
+pub mod Membership
+pub mod Lcm
