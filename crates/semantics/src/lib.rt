@@ -1,6 +1,6 @@
 // What model nets and automaton nets mean: definitions, and the theorems about them.
 ghost use Rattle.semantics.specs.Membership.{Membership};
-ghost use Rattle.semantics.specs.Laws.{Scales-are-least};
+ghost use Rattle.semantics.specs.Laws.{Scales-are-least, Stance-numbers, Meanings-are-sound, Gearing-keeps-sound};
 ghost use Rattle.semantics.specs.Relay.{Relay-works};
 
 pub mod state;
@@ -15,6 +15,27 @@ pub fn tests_decide() -> u8
 // A scale is the least common multiple of its denominators.
 pub fn scales_are_least() -> u8
     ensures { λ _. ⌜ Scales-are-least ⌝ }
+{
+    0
+}
+
+// A stance's number and its phase and words sent give each other back.
+pub fn stance_numbers() -> u8
+    ensures { λ _. ⌜ Stance-numbers ⌝ }
+{
+    0
+}
+
+// The meanings of lawful model nets and of lawful automaton nets are sound.
+pub fn meanings_are_sound() -> u8
+    ensures { λ _. ⌜ Meanings-are-sound ⌝ }
+{
+    0
+}
+
+// Gearing keeps soundness, and gears every station to the net scale.
+pub fn gearing_keeps_sound() -> u8
+    ensures { λ _. ⌜ Gearing-keeps-sound ⌝ }
 {
     0
 }
