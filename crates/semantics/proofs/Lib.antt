@@ -1,3 +1,4 @@
 pub mod Membership
 pub mod Lcm
 pub mod Sound
+pub mod OneTime

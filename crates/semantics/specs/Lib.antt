@@ -17,4 +17,5 @@ pub mod ModelRules
 pub mod AutomatonRules
 pub mod Faithful
 pub mod Relay
+pub mod OneTime
 pub mod Laws

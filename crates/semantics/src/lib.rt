@@ -1,6 +1,7 @@
 // What model nets and automaton nets mean: definitions, and the theorems about them.
 ghost use Rattle.semantics.specs.Membership.{Membership};
 ghost use Rattle.semantics.specs.Laws.{Scales-are-least, Stance-numbers, Meanings-are-sound, Gearing-keeps-sound};
+ghost use Rattle.semantics.specs.OneTime.{Equal-fractions-are-one-time};
 ghost use Rattle.semantics.specs.Relay.{Relay-works};
 
 pub mod state;
@@ -8,6 +9,13 @@ pub mod state;
 // The tests of times, windows and words decide what they say in plain terms.
 pub fn tests_decide() -> u8
     ensures { λ _. ⌜ Membership ⌝ }
+{
+    0
+}
+
+// No test tells equal fractions apart.
+pub fn equal_fractions_are_one_time() -> u8
+    ensures { λ _. ⌜ Equal-fractions-are-one-time ⌝ }
 {
     0
 }
