@@ -1,4 +1,6 @@
+pub mod Options
 pub mod Membership
 pub mod Lcm
 pub mod Sound
 pub mod OneTime
+pub mod Devs

@@ -24,6 +24,7 @@ use Rattle.semantics.specs.Meanings.{stance-number, phase-of, sent-of, move-wi
 use Rattle.semantics.specs.LawfulModels.{Lawful-edge, Lawful-phase, Lawful-station, LawfulModel, Next-here, Small-life}
 use Rattle.semantics.specs.LawfulAutomata.{is-move, Hears-only, Printed-move, Lawful-moves, Lawful-transition, Bound-fits, Lawful-location, Lawful-automaton, LawfulAutomata}
 use Rattle.semantics.specs.Laws.{Stance-numbers, Meanings-are-sound, Gearing-keeps-sound}
+use Rattle.semantics.proofs.Options.{some-not-none, inner, true-not-false}
 use Rattle.semantics.proofs.Lcm.{least-common}
 
 -- Numbers of stances.
@@ -33,15 +34,6 @@ stance-numbers = record {
   sent-back = λ i j l. mul-add-mod-self-left 4 i j ∙ mod-eq-of-lt l;
   number-back = λ s. div-add-mod s 4;
 }
-
-some-not-none : {A : Type 0} (x : A) → Some x ≡ None → ⊥
-some-not-none x e = let z : _≡_ {A = ℕ} 0 1 = cc in omega arith
-
-inner : {A : Type 0} {x y : A} → Some x ≡ Some y → x ≡ y
-inner e = cc
-
-true-not-false : true ≡ false → ⊥
-true-not-false e = let z : _≡_ {A = ℕ} 0 1 = cc in omega arith
 
 -- what the first that fits leads to, all of them lead to
 first-among : {A : Type 0} (P : ℕ → Type 0) (fits : A → Bool) (goal : A → ℕ) (xs : List A) (s : ℕ) →

@@ -15,6 +15,7 @@ pub mod LawfulAutomata
 pub mod Runs
 pub mod ModelRules
 pub mod AutomatonRules
+pub mod Devs
 pub mod Faithful
 pub mod Relay
 pub mod OneTime

@@ -2,6 +2,7 @@
 ghost use Rattle.semantics.specs.Membership.{Membership};
 ghost use Rattle.semantics.specs.Laws.{Scales-are-least, Stance-numbers, Meanings-are-sound, Gearing-keeps-sound};
 ghost use Rattle.semantics.specs.OneTime.{Equal-fractions-are-one-time};
+ghost use Rattle.semantics.specs.Devs.{Models-are-devs};
 ghost use Rattle.semantics.specs.Relay.{Relay-works};
 
 pub mod state;
@@ -44,6 +45,13 @@ pub fn meanings_are_sound() -> u8
 // Gearing keeps soundness, and gears every station to the net scale.
 pub fn gearing_keeps_sound() -> u8
     ensures { λ _. ⌜ Gearing-keeps-sound ⌝ }
+{
+    0
+}
+
+// A station by the model's rules is the atomic DEVS of its phases.
+pub fn models_are_devs() -> u8
+    ensures { λ _. ⌜ Models-are-devs ⌝ }
 {
     0
 }
