@@ -18,5 +18,6 @@ pub mod AutomatonRules
 pub mod Devs
 pub mod Faithful
 pub mod Relay
+pub mod Examples
 pub mod OneTime
 pub mod Laws

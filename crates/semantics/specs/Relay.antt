@@ -1,18 +1,22 @@
--- The relay and other examples, worked.
+-- The relay, worked: its session on the model and on the print, and a run with fractional delays.
 use Prim.Native.Nat.{ℕ, zero, suc}
 use mathlib.Core.Bool.{Bool, true, false}
-use mathlib.Core.List.{List, [], _∷_}
+use mathlib.Core.List.{List, [], _∷_, _++_}
 use mathlib.Core.Path.{_≡_}
 use Rattle.std.specs.declared.option.Option.the-variants.{Some, None}
 use Rattle.std.specs.declared.result.Result.the-variants.{Ok, Err}
 use Rattle.book.specs.Refusals.{refused}
-use Rattle.book.specs.declared.refusal.Fault.the-variants.{Scale, Room, Busy, Due, Lifetime, Idle}
+use Rattle.book.specs.declared.refusal.Fault.the-variants.{Busy, Lifetime, Idle}
 use Rattle.semantics.specs.Times.{Fraction, fraction, Window, Closed, Absent, StepFirst, WordFirst}
 use Rattle.semantics.specs.Trees.{Word, Path, Edge, Phase, endless, lasting, Station, ModelNet}
 use Rattle.semantics.specs.Events.{Event, event, Arrival, External, Output, Internal, Created}
-use Rattle.semantics.specs.Calls.{Answer, Call, wait, word, step, answers, tells, left-by}
+use Rattle.semantics.specs.Calls.{Answer, Call, wait, word, step, answers, tells}
 use Rattle.semantics.specs.Print.{print}
-use Rattle.semantics.specs.Faithful.{model-made, automata-made}
+use Rattle.semantics.specs.Runs as acts
+use Rattle.semantics.specs.Runs.{Act}
+use Rattle.semantics.specs.ModelRules.{ModelState, ModelRun}
+use Rattle.semantics.specs.AutomatonRules.{AutomatonState, AutomatonRun}
+use Rattle.semantics.specs.Faithful.{model-made, automata-made, model-left, automata-left, model-start, automaton-start}
 
 abbrev pub sends : ℕ → ℕ → Word
 sends port value = record { port = port; value = value }
@@ -36,30 +40,59 @@ relay = record {
   paths = path 0 1 1 1 ∷ path 1 2 0 4 ∷ [];
 }
 
--- its session with q parts per tick
+-- Its session, with so many parts for three net ticks. The call that makes the net has its slots too; 6 are enough.
 abbrev pub session : ℕ → List Call
 session three-ticks = word 1 5 6 ∷ wait three-ticks ∷ step 6 ∷ step 6 ∷ []
 
-abbrev pub session-answers : List Answer
-session-answers =
-    Ok (event Arrival 1 1 5 ∷ event External 1 0 2 ∷ [])
-    ∷ Ok []
-    ∷ Ok (event Output 1 2 7 ∷ event Arrival 0 4 7 ∷ [])
-    ∷ Ok (event Output 1 2 8 ∷ event Arrival 0 4 8 ∷ event Internal 1 0 1 ∷ [])
-    ∷ []
+abbrev pub heard : List Event
+heard = event Arrival 1 1 5 ∷ event External 1 0 2 ∷ []
 
--- the relay's net over the model, and over its print
+abbrev pub first-step : List Event
+first-step = event Output 1 2 7 ∷ event Arrival 0 4 7 ∷ []
+
+abbrev pub second-step : List Event
+second-step = event Output 1 2 8 ∷ event Arrival 0 4 8 ∷ event Internal 1 0 1 ∷ []
+
+-- the answers of a net over the model, and of one over its print, with q parts per tick; and what a station then tells
 abbrev pub on-model : ModelNet → ℕ → List Call → List Answer
 on-model m q calls = answers (model-made m q 6 .net) (m .paths) calls (model-made m q 6 .state)
 
 abbrev pub on-print : ModelNet → ℕ → List Call → List Answer
 on-print m q calls = answers (automata-made (print m) q 6 .net) (m .paths) calls (automata-made (print m) q 6 .state)
 
+abbrev pub told-by-model : ModelNet → ℕ → List Call → ℕ → ℕ × ℕ × ℕ
+told-by-model m q calls k = tells (model-made m q 6 .net) (model-left m (print m) q 6 calls) k
+
+abbrev pub told-by-print : ModelNet → ℕ → List Call → ℕ → ℕ × ℕ × ℕ
+told-by-print m q calls k = tells (automata-made (print m) q 6 .net) (automata-left m (print m) q 6 calls) k
+
 pub record Relay-works : Type 0 where
   pub made : model-made relay 1 1 .answer ≡ Ok (event Created 1 0 1 ∷ [])
   pub print-made : automata-made (print relay) 1 1 .answer ≡ Ok (event Created 1 0 1 ∷ [])
-  pub session-on-model : on-model relay 1 (session 3) ≡ session-answers
-  pub session-on-print : on-print relay 1 (session 3) ≡ session-answers
-  -- the same at 3 parts per tick
-  pub finer-on-model : on-model relay 3 (session 9) ≡ session-answers
-  pub finer-on-print : on-print relay 3 (session 9) ≡ session-answers
+  -- the session at 1 and at 3 parts per tick
+  pub on-the-model : on-model relay 1 (session 3) ≡ Ok heard ∷ Ok [] ∷ Ok first-step ∷ Ok second-step ∷ []
+  pub on-the-print : on-print relay 1 (session 3) ≡ Ok heard ∷ Ok [] ∷ Ok first-step ∷ Ok second-step ∷ []
+  pub finer-on-model : on-model relay 3 (session 9) ≡ Ok heard ∷ Ok [] ∷ Ok first-step ∷ Ok second-step ∷ []
+  pub finer-on-print : on-print relay 3 (session 9) ≡ Ok heard ∷ Ok [] ∷ Ok first-step ∷ Ok second-step ∷ []
+  -- a wait of 4 in place of 3 is past the lifetime of station 1, and then no station is due
+  pub too-long : on-model relay 1 (session 4) ≡ Ok heard ∷ Err (refused Lifetime 1) ∷ Err (refused Idle 0) ∷ Err (refused Idle 0) ∷ []
+  -- a wait of 0 between its two words
+  pub between : on-print relay 1 (word 1 5 6 ∷ wait 3 ∷ step 6 ∷ wait 0 ∷ step 6 ∷ []) ≡ Ok heard ∷ Ok [] ∷ Ok first-step ∷ Err (refused Busy 1) ∷ Ok second-step ∷ []
+  -- a word that is not heard does not restart time; nor does the step into the midst of a burst
+  pub unheard : on-model relay 3 (word 1 5 6 ∷ wait 4 ∷ word 1 5 6 ∷ []) ≡ Ok heard ∷ Ok [] ∷ Ok (event Arrival 1 1 5 ∷ []) ∷ []
+  pub unheard-tells : told-by-model relay 3 (word 1 5 6 ∷ wait 4 ∷ word 1 5 6 ∷ []) 1 ≡ (2, 0, 4)
+  pub in-burst : told-by-model relay 3 (word 1 5 6 ∷ wait 9 ∷ step 6 ∷ []) 1 ≡ (2, 1, 9)
+  pub in-burst-print : told-by-print relay 3 (word 1 5 6 ∷ wait 9 ∷ step 6 ∷ []) 1 ≡ (2, 1, 9)
+  -- no station is past the last, and none has the number 0
+  pub no-station : (told-by-model relay 1 [] 0 ≡ (0, 0, 0)) × (told-by-model relay 1 [] 2 ≡ (0, 0, 0))
+
+-- A run with delays of 7/3 and 2/3 of a net tick, from the making on.
+abbrev pub parts-of-a-tick : List Act
+parts-of-a-tick = acts.word 1 5 ∷ acts.delay (fraction 7 3) ∷ acts.delay (fraction 2 3) ∷ acts.step ∷ acts.step ∷ []
+
+pub record Relay-runs : Type 0 where
+  pub by-model :
+    (τ : ℕ → ModelState) × ModelRun relay (model-start relay 1 (model-made relay 1 1 .state)) parts-of-a-tick (heard ++ (first-step ++ second-step)) τ
+  pub by-automaton :
+    (τ : ℕ → AutomatonState)
+    × AutomatonRun (print relay) (automaton-start (print relay) 1 (automata-made (print relay) 1 1 .state)) parts-of-a-tick (heard ++ (first-step ++ second-step)) τ

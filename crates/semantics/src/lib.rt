@@ -3,7 +3,8 @@ ghost use Rattle.semantics.specs.Membership.{Membership};
 ghost use Rattle.semantics.specs.Laws.{Scales-are-least, Stance-numbers, Meanings-are-sound, Gearing-keeps-sound};
 ghost use Rattle.semantics.specs.OneTime.{Equal-fractions-are-one-time};
 ghost use Rattle.semantics.specs.Devs.{Models-are-devs};
-ghost use Rattle.semantics.specs.Relay.{Relay-works};
+ghost use Rattle.semantics.specs.Relay.{Relay-works, Relay-runs};
+ghost use Rattle.semantics.specs.Examples.{Examples-work};
 
 pub mod state;
 
@@ -59,6 +60,20 @@ pub fn models_are_devs() -> u8
 // The relay's session, on its model and on its print.
 pub fn relay_works() -> u8
     ensures { λ _. ⌜ Relay-works ⌝ }
+{
+    0
+}
+
+// A run of the relay with fractional delays, by the model's rules and by the automaton rules.
+pub fn relay_runs() -> u8
+    ensures { λ _. ⌜ Relay-runs ⌝ }
+{
+    0
+}
+
+// Scales, the window that counts, two stations with unequal scales, and refusals.
+pub fn examples_work() -> u8
+    ensures { λ _. ⌜ Examples-work ⌝ }
 {
     0
 }

@@ -5,8 +5,15 @@ pub returns : need.returns
 returns c = record {
   made = refl;
   print-made = refl;
-  session-on-model = refl;
-  session-on-print = refl;
+  on-the-model = refl;
+  on-the-print = refl;
   finer-on-model = refl;
   finer-on-print = refl;
+  too-long = refl;
+  between = refl;
+  unheard = refl;
+  unheard-tells = refl;
+  in-burst = refl;
+  in-burst-print = refl;
+  no-station = (refl, refl);
 }
