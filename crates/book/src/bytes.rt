@@ -2,7 +2,7 @@
 ghost use mathlib.Core.Path.{_≡_};
 ghost use Prim.Native.Nat.{ℕ, _+_, _*_};
 ghost use lib.ListN.{length, drop};
-ghost use Rattle.book.specs.Bytes.{at, two, four, eight, row, Apart};
+ghost use Rattle.book.specs.Bytes.{at, two, four, eight, row, zeros, Apart};
 ghost use Rattle.std.specs.Options.{Cases};
 
 // Byte i.
@@ -18,6 +18,43 @@ pub fn two_at(bytes: &[u8], i: u8) -> u16
 {
     let i = usize::from(i);
     256 * u16::from(byte_at(bytes, i)) + u16::from(byte_at(bytes, i + 1))
+}
+
+// Four bytes from any place up to 65,535.
+fn wide_at(bytes: &[u8], i: u16) -> u32
+    ensures { λ r. ⌜ r ≡ four (now (bytes .entry)) i ⌝ }
+{
+    let i = usize::from(i);
+    let high = 256 * u32::from(byte_at(bytes, i)) + u32::from(byte_at(bytes, i + 1));
+    let low = 256 * u32::from(byte_at(bytes, i + 2)) + u32::from(byte_at(bytes, i + 3));
+    65536 * high + low
+}
+
+// The number in four bytes of a row from i on.
+pub fn four_at(bytes: &[u8], i: u8) -> u32
+    ensures { λ r. ⌜ r ≡ four (now (bytes .entry)) i ⌝ }
+{
+    wide_at(bytes, u16::from(i))
+}
+
+// The number in eight bytes of a row from i on.
+pub fn eight_at(bytes: &[u8], i: u8) -> u64
+    ensures { λ r. ⌜ r ≡ eight (now (bytes .entry)) i ⌝ }
+{
+    let k = u16::from(i);
+    4294967296 * u64::from(wide_at(bytes, k)) + u64::from(wide_at(bytes, k + 4))
+}
+
+// Whether the bytes from i up to, and without, j are zero.
+pub fn are_zero(bytes: &[u8], i: usize, j: usize) -> bool
+    ensures { λ r. ⌜ r ≡ zeros (now (bytes .entry)) i j ⌝ }
+{
+    for k in i..j {
+        if byte_at(bytes, k) != 0 {
+            return false;
+        }
+    }
+    true
 }
 
 // The 32 bytes of record k, or what the book has of them. The head is record 0.
