@@ -8,12 +8,13 @@ use mathlib.Core.Path.{_≡_}
 use Rattle.std.specs.shelf.Lists.{All, sumBy}
 use Rattle.std.specs.declared.option.Option.{Option}
 use Rattle.std.specs.declared.option.Option.the-variants.{Some, None}
+use Rattle.records.specs.Fits.{Byte, Two, High-fits}
 use Rattle.semantics.specs.Times.{Fraction, Proper, inside, whole}
 use Rattle.semantics.specs.Trees.{Label, Silent, Hears, Sends, Transition, Location, location-at, Automaton, AutomatonNet}
 use Rattle.semantics.specs.Scales.{automaton-scale}
 use Rattle.semantics.specs.Fits.{transition-fits, within-bound}
 use Rattle.semantics.specs.Print.{from-on}
-use Rattle.semantics.specs.Limits.{Byte, At-most-one, High-end, Lawful-path}
+use Rattle.semantics.specs.Limits.{At-most-one, Lawful-path}
 
 -- A transition that does not hear is a move.
 abbrev pub is-move : Label → Bool
@@ -31,7 +32,7 @@ pub record Lawful-transition (n scale : ℕ) (bound : Option ℕ) (t : Transitio
   pub goal-here : t .goal < n -- Goals
   pub label-fits : Lawful-label (t .label)
   pub low-fits : t .guard .low ≤ 1000000 * scale -- Limits
-  pub high-fits : High-end (λ h. h ≤ 1000000 * scale) (t .guard .high) -- Limits
+  pub high-fits : High-fits (λ h. h ≤ 1000000 * scale) (t .guard .high) -- Limits
   -- some moment up to and with the bound is in the guard: EmptyWindow
   pub guard-holds : (x : Fraction) × (Proper x × ((inside whole (t .guard) x ≡ true) × (within-bound bound x ≡ true)))
 
@@ -55,7 +56,7 @@ Bound-fits scale None = Unit {0}
 Bound-fits scale (Some b) = b ≤ 1000000 * scale
 
 pub record Lawful-location (a : Automaton) (l : Location) : Type 0 where
-  pub phase-width : l .phase < 65536
+  pub phase-width : Two (l .phase)
   pub sent-width : Byte (l .sent)
   pub bound-fits : Bound-fits (a .scale) (l .bound) -- Limits
   pub transitions-fit : All (Lawful-transition (length (a .locations)) (a .scale) (l .bound)) (l .transitions)

@@ -6,11 +6,12 @@ use mathlib.Core.Path.{_≡_}
 use Rattle.std.specs.shelf.Lists.{All, sumBy}
 use Rattle.std.specs.declared.option.Option.{Option}
 use Rattle.std.specs.declared.option.Option.the-variants.{Some, None}
+use Rattle.records.specs.Fits.{Byte, High-fits}
 use Rattle.semantics.specs.Times.{Fraction, Proper, Order, inside, counts, itself}
 use Rattle.semantics.specs.Trees.{Word, Edge, Phase, endless, lasting, lifetime-of, words-of, edges-of, Station, ModelNet}
 use Rattle.semantics.specs.Scales.{station-scale, model-scale}
 use Rattle.semantics.specs.Fits.{edge-fits}
-use Rattle.semantics.specs.Limits.{Byte, At-most-one, High-end, Lawful-path}
+use Rattle.semantics.specs.Limits.{At-most-one, Lawful-path}
 
 -- Limits: numerators of at most 1,000,000 and denominators of 1 to 1,000.
 pub record Small-time (t : Fraction) : Type 0 where
@@ -32,7 +33,7 @@ pub record Lawful-edge (n : ℕ) (e : Edge) : Type 0 where
   pub values-ordered : e .lowest ≤ e .highest -- Limits
   pub value-width : Byte (e .highest)
   pub low-fits : Small-time (e .window .low) -- Limits
-  pub high-fits : High-end Small-time (e .window .high) -- Limits
+  pub high-fits : High-fits Small-time (e .window .high) -- Limits
 
 abbrev pub Next-here : ℕ → Phase → Type 0
 Next-here n (endless edges) = Unit {0}

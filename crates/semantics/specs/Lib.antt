@@ -12,12 +12,15 @@ pub mod Print
 pub mod Limits
 pub mod LawfulModels
 pub mod LawfulAutomata
+pub mod Books
+pub mod Rows
 pub mod Runs
 pub mod ModelRules
 pub mod AutomatonRules
 pub mod Devs
 pub mod Faithful
 pub mod Relay
+pub mod RelayBook
 pub mod Examples
 pub mod OneTime
 pub mod Laws

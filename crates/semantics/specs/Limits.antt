@@ -1,4 +1,4 @@
--- What both kinds of lawful net are asked: widths of fields, high ends, at most one that fits, and paths.
+-- What both kinds of lawful net are asked: at most one that fits, and paths.
 -- A lawful net is one that the check of its book accepts; a comment names the fault that a breach is.
 use Prim.Native.Nat.{ℕ, _<_, _≤_}
 use mathlib.Core.Bool.{Bool, true, false}
@@ -6,23 +6,13 @@ use mathlib.Core.List.{List, [], _∷_}
 use mathlib.Core.Logic.{_≢_}
 use mathlib.Core.Path.{_≡_}
 use Rattle.std.specs.shelf.Lists.{All}
-use Rattle.semantics.specs.Times.{HighEnd, Closed, Open, Absent}
+use Rattle.records.specs.Fits.{Byte}
 use Rattle.semantics.specs.Trees.{Path}
-
--- a number of one byte
-abbrev pub Byte : ℕ → Type 0
-Byte x = x < 256
 
 -- of the list at most one passes
 abbrev pub At-most-one : {A : Type 0} → (A → Bool) → List A → Type 0
 At-most-one fits [] = Unit {0}
 At-most-one fits (x ∷ xs) = (fits x ≡ true → All (λ y. fits y ≡ false) xs) × At-most-one fits xs
-
--- what is asked of a high end, if there is one
-abbrev pub High-end : {T : Type 0} → (T → Type 0) → HighEnd T → Type 0
-High-end P (Closed h) = P h
-High-end P (Open h) = P h
-High-end P Absent = Unit {0}
 
 -- a path of a net with n stations: Paths
 pub record Lawful-path (n : ℕ) (p : Path) : Type 0 where
