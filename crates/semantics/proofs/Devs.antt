@@ -7,20 +7,23 @@ use mathlib.Core.Bool.{Bool, true, false, cond, _&&_}
 use mathlib.Core.List.{List, [], _∷_}
 use mathlib.Core.Logic.{_↔_, _⊎_, inl, inr}
 use mathlib.Core.Path.{_≡_, refl, sym, _∙_, ap, ap₂, subst}
-use Rattle.std.specs.Options.{mapped}
+use Rattle.std.specs.Options.{mapped, orOther}
 use Rattle.std.specs.shelf.Lists.{All}
 use Rattle.std.specs.declared.option.Option.{Option}
 use Rattle.std.specs.declared.option.Option.the-variants.{Some, None}
 use Rattle.std.proofs.shelf.Elements.{all-getD}
 use Rattle.std.proofs.shelf.Tests.{eqb-true, eq-eqb, and-parts, and-from, leb-true, le-leb, both-ways}
 use Rattle.semantics.specs.Times.{Fraction, Proper, plus, over, zero-time, Order}
-use Rattle.semantics.specs.Trees.{Word, Edge, Phase, endless, lasting, lifetime-of, words-of, edges-of, next-of, phase-at, blank-phase, Station}
+use Rattle.semantics.specs.Trees.{Word, Path, Edge, Phase, endless, lasting, lifetime-of, words-of, edges-of, next-of, phase-at, blank-phase, Station}
 use Rattle.semantics.specs.Fits.{edge-fits, first}
+use Rattle.semantics.specs.Calls.{lowest}
+use Rattle.semantics.specs.Runs.{Rules, Turn, lowest-busy, lowest-due}
 use Rattle.semantics.specs.Limits.{At-most-one}
 use Rattle.semantics.specs.LawfulModels.{Lawful-phase, Lawful-station}
-use Rattle.semantics.specs.ModelRules.{Any, ModelState, fresh, lasts, is-over, Sends-next, Leaves, model-rules}
+use Rattle.semantics.specs.ModelRules.{Any, ModelState, fresh, lasts, is-over, Sends-next, Leaves, model-rules, rules-of}
 use Rattle.semantics.specs.Devs.{Atomic, Burst, burst, first-word, after-word, advance, hear, atomic, Ends-at, Not-past, state-of, aged, moved, Steps-as-atomic, Models-are-devs}
 use Rattle.semantics.proofs.Options.{some-not-none, inner}
+use Rattle.semantics.proofs.Lowest.{Lowest, is-lowest, all-fail, found, none-found}
 
 over-ends : (l : Option Fraction) (t : Fraction) → (is-over l t ≡ true → Ends-at l t) × (Ends-at l t → is-over l t ≡ true)
 over-ends None t = ((λ e. both-ways false refl e), (λ e. absurd e))
@@ -79,7 +82,7 @@ any-first fits goal make y (x ∷ xs) one (inr a) = go (fits x) refl (any-first 
     go : (b : Bool) → fits x ≡ b → ((g : ℕ) × ((first fits goal xs ≡ Some g) × (y ≡ make g))) →
         (g : ℕ) × ((first fits goal (x ∷ xs) ≡ Some g) × (y ≡ make g))
     go true f rest = absurd (not-any fits _ xs (one .0 f) a)
-    go false f (g , (e , r)) = (g, (ap (λ b. cond b (Some (goal x)) (first fits goal xs)) f ∙ e, r))
+    go false f (g, (e, r)) = (g, (ap (λ b. cond b (Some (goal x)) (first fits goal xs)) f ∙ e, r))
 
 first-any : {A Y : Type 0} (fits : A → Bool) (goal : A → ℕ) (make : ℕ → Y) (y : Y) (g : ℕ) → y ≡ make g → (xs : List A) → first fits goal xs ≡ Some g →
     Any (λ x. (fits x ≡ true) × (y ≡ make (goal x))) xs
@@ -122,11 +125,13 @@ module _ (o : Order) (scale : ℕ) (st : Station) (lawful : Lawful-station o st)
         forth w y a =
             let r = any-first _ (λ e. e .goal) fresh y (edges-of f) (lawful-here .edges-apart (w .port) (w .value) t proper) a in
             (burst (r .0) 0, (ap (mapped (λ g. burst g 0)) (r .1 .0), r .1 .1))
+
         back : (w : Word) (y : ModelState) → ((s : Burst) × ((hear o (st .phases) i 0 t w ≡ Some s) × (y ≡ aged s zero-time))) →
             (_≡_ {A = ℕ} 0 0) × Any (λ e. (edge-fits o (lifetime-of f) (w .port) (w .value) t e ≡ true) × (y ≡ fresh (e .goal))) (edges-of f)
-        back w y (s , (e , r)) =
+        back w y (s, (e, r)) =
             let m = mapped-some _ s e in
             (refl, first-any _ (λ e. e .goal) fresh y (m .0) (r ∙ ap (λ z. aged z zero-time) (m .1 .1)) (edges-of f) (m .1 .0))
+
         deaf : (w : Word) → (0 < 0) ⊎ All (λ e. edge-fits o (lifetime-of f) (w .port) (w .value) t e ≡ false) (edges-of f) → hear o (st .phases) i 0 t w ≡ None
         deaf w (inl l) = absurd (omega arith)
         deaf w (inr h) = ap (mapped (λ g. burst g 0)) (none-fits _ (λ e. e .goal) (edges-of f) h)
@@ -141,9 +146,41 @@ module _ (o : Order) (scale : ℕ) (st : Station) (lawful : Lawful-station o st)
       deaf-so = λ w. ((λ h. refl), (λ e. inl (omega arith)));
     }
 
-pub models-are-devs : Models-are-devs
-models-are-devs o scale st lawful x here proper = go (x .sent)
+stations-are : (o : Order) (scale : ℕ) (st : Station) → Lawful-station o st →
+    (x : ModelState) → x .phase < length (st .phases) → Proper (x .age) → Steps-as-atomic o scale st x
+stations-are o scale st lawful x here proper = go (x .sent)
   where
     go : (j : ℕ) → Steps-as-atomic o scale st (record { phase = x .phase; sent = j; age = x .age })
     go zero = quiet-steps o scale st lawful (x .phase) (x .age) here proper
     go (suc j) = sent-steps o scale st lawful (x .phase) (x .age) here proper j
+
+-- The turn of a step, by the lowest busy station and the lowest due one.
+module _ {X : Type 0} (rules : ℕ → Rules X) (n : ℕ) (order : Order) (paths : List Path) (σ : ℕ → X) where
+  abbrev busy : ℕ → Bool
+  busy k = rules k .busy (σ k)
+
+  abbrev due : ℕ → Bool
+  due k = rules k .due (σ k)
+
+  pub turn-selects : (i : ℕ) → Turn rules n order paths σ i → orOther (lowest busy 0 n) (lowest due 0 n) ≡ Some i
+  turn-selects i (lowest-busy l here below) = ap (λ x. orOther x (lowest due 0 n)) (found busy 0 n i (omega arith) (omega arith) here (λ k _. below k))
+  turn-selects i (lowest-due quiet l here below) =
+      ap₂ orOther (none-found busy 0 n (λ k a b. quiet k (omega arith))) (found due 0 n i (omega arith) (omega arith) here (λ k _. below k))
+
+  pub selects-turn : (i : ℕ) → orOther (lowest busy 0 n) (lowest due 0 n) ≡ Some i → Turn rules n order paths σ i
+  selects-turn i e = go (lowest busy 0 n) refl (lowest due 0 n) refl e
+    where
+      go : (b : Option ℕ) → lowest busy 0 n ≡ b → (d : Option ℕ) → lowest due 0 n ≡ d → orOther b d ≡ Some i → Turn rules n order paths σ i
+      go (Some k) eb d ed h =
+          let r = is-lowest busy 0 n i (eb ∙ h) in
+          lowest-busy (omega arith) (r .passes) (λ j l. r .below j (omega arith) l)
+      go None eb (Some k) ed h =
+          let r = is-lowest due 0 n i (ed ∙ h) in
+          lowest-due (λ j l. all-fail busy 0 n eb j (omega arith) (omega arith)) (omega arith) (r .passes) (λ j l. r .below j (omega arith) l)
+      go None eb None ed h = absurd (some-not-none i (sym h))
+
+pub models-are-devs : Models-are-devs
+models-are-devs = record {
+  stations = stations-are;
+  turns = λ m σ i. (turn-selects (rules-of m) _ (m .order) (m .paths) σ i, selects-turn (rules-of m) _ (m .order) (m .paths) σ i);
+}

@@ -35,6 +35,7 @@ module _ (a d : ℕ) where
       up-to : (c j : ℕ) → 1 ≤ c → a * j ≡ c → d ∣ c → k ≤ j
       up-to c zero p e r = absurd (omega arith)
       up-to c (suc j) p e r = omega (arith, λ (x : suc j < k). none (suc j) (omega arith) x (subst (λ y. d ∣ y) (sym e) r))
+
       low : (c : ℕ) → 1 ≤ c → a * (c / a) ≡ c → d ∣ c → a * k ≤ c
       low c p e r = let m = mul-le-mul-left a (up-to c (c / a) p e r) in omega arith
 
@@ -68,6 +69,7 @@ lcm-common a d ap dp = go (cases-lt a d)
   where
     at : (x y : ℕ) → max a d ≡ x → min a d ≡ y → first-multiple x y 1 y ≡ lcm a d
     at x y e f = sym (ap₂ (λ u v. first-multiple u v 1 v) e f)
+
     go : (a < d) ⊎ (d ≤ a) → Common a d (lcm a d)
     go (inl l) =
         let h : a ≤ d = omega arith in

@@ -3,4 +3,5 @@ pub mod Membership
 pub mod Lcm
 pub mod Sound
 pub mod OneTime
+pub mod Lowest
 pub mod Devs

@@ -70,7 +70,7 @@ membership = record {
   counts-decides = counts-decides;
   word-decides = word-decides;
   edge-decides = λ o life p v t e.
-    decides-and _ _ (word-decides (e .port) (e .lowest) (e .highest) p v)
+      decides-and _ _ (word-decides (e .port) (e .lowest) (e .highest) p v)
       (decides-and _ _ (inside-decides itself (e .window) t) (counts-decides o life t));
   transition-decides = λ p v t x. decides-and _ _ (label-decides (x .label) p v) (inside-decides whole (x .guard) t);
   bound-decides = bound-decides;

@@ -90,7 +90,7 @@ ratio-same a b c d bp dp e =
 ticks-same : (s : ℕ) (t u : Fraction) → One-time t u → ticks s t ≡ ticks s u
 ticks-same s t u one =
     ratio-same (t .numerator * s) (t .denominator) (u .numerator * s) (u .denominator) (one .left) (one .right)
-      (let m = ap (λ z. z * s) (one .equal) in omega arith)
+    (let m = ap (λ z. z * s) (one .equal) in omega arith)
 
 low-same : (o : Bool) (x y t u : Fraction) → One-time x y → One-time t u → past-low itself o x t ≡ past-low itself o y u
 low-same true x y t u h one = before-same x y t u h one
@@ -110,8 +110,8 @@ high-same Absent Absent t u h one = refl
 inside-same : (v w : Window Fraction) (t u : Fraction) → One-window v w → One-time t u → inside itself v t ≡ inside itself w u
 inside-same v w t u same one =
     ap₂ _&&_
-      (low-same (v .«low_open») (v .low) (w .low) t u (same .lows) one ∙ ap (λ o. past-low itself o (w .low) u) (same .opens))
-      (high-same (v .high) (w .high) t u (same .highs) one)
+    (low-same (v .«low_open») (v .low) (w .low) t u (same .lows) one ∙ ap (λ o. past-low itself o (w .low) u) (same .opens))
+    (high-same (v .high) (w .high) t u (same .highs) one)
 
 counts-same : (o : Order) (l k : Option Fraction) (t u : Fraction) → One-life l k → One-time t u → counts o l t ≡ counts o k u
 counts-same StepFirst None None t u h one = refl
@@ -125,9 +125,9 @@ edge-same : (o : Order) (l k : Option Fraction) (p v : ℕ) (t u : Fraction) (d 
     edge-fits o l p v t d ≡ edge-fits o k p v u e
 edge-same o l k p v t u d e life one same =
     ap₂ _&&_
-      (ap (λ x. word-fits x (d .lowest) (d .highest) p v) (same .ports)
-        ∙ ap₂ (λ x y. word-fits (e .port) x y p v) (same .lowests) (same .highests))
-      (ap₂ _&&_ (inside-same (d .window) (e .window) t u (same .windows) one) (counts-same o l k t u life one))
+    (ap (λ x. word-fits x (d .lowest) (d .highest) p v) (same .ports)
+    ∙ ap₂ (λ x y. word-fits (e .port) x y p v) (same .lowests) (same .highests))
+    (ap₂ _&&_ (inside-same (d .window) (e .window) t u (same .windows) one) (counts-same o l k t u life one))
 
 -- One moment, written in two ways, against any fraction.
 module _ (t u : Fraction) (one : One-time t u) where
@@ -207,14 +207,14 @@ model-hears-same : (o : Order) (scale i : ℕ) (f : Phase) (p v e q d r : ℕ) �
     quiet-stance o scale i f .hears p v e q ≡ quiet-stance o scale i f .hears p v d r
 model-hears-same o scale i f p v e q d r some one =
     first-same _ _ (λ x. stance-number (x .goal) 0)
-      (λ x. edge-moment (fraction e (q * scale)) (fraction d (r * scale)) (over-same (fraction e q) (fraction d r) scale some one) o (lifetime-of f) p v x)
-      (edges-of f)
+    (λ x. edge-moment (fraction e (q * scale)) (fraction d (r * scale)) (over-same (fraction e q) (fraction d r) scale some one) o (lifetime-of f) p v x)
+    (edges-of f)
 
 automaton-hears-same : (l : Location) (p v e q d r : ℕ) → One-time (fraction e q) (fraction d r) →
     location-stance l .hears p v e q ≡ location-stance l .hears p v d r
 automaton-hears-same l p v e q d r one =
     ap₂ (λ b x. cond b x None) (bound-same _ _ one (l .bound))
-      (first-same _ _ (λ x. x .goal) (λ x. transition-same _ _ one p v x) (l .transitions))
+    (first-same _ _ (λ x. x .goal) (λ x. transition-same _ _ one p v x) (l .transitions))
 
 pub one-time : Equal-fractions-are-one-time
 one-time = record {

@@ -86,6 +86,7 @@ module _ (o : Order) (scale n : ℕ) (m : StationMeaning) (scaled : m .scale ≡
           (k : Move) → first-move i f ≡ Some k → m .known (k .follows) ≡ true
       moves (endless edges) l b k e = absurd (some-not-none k (sym e))
       moves (lasting life words next edges) l b k e = follows-known i 0 next words (l .next-here) b k e
+
       still : (f : Phase) → (first-move i f ≡ None) ↔ ((false ≡ false) × (life-ticks scale (lifetime-of f) ≡ None))
       still (endless edges) = ((λ e. (refl, refl)), (λ e. refl))
       still (lasting life words next edges) = ((λ e. absurd (some-not-none _ e)), (λ e. absurd (some-not-none _ (e .1))))
@@ -95,7 +96,7 @@ module _ (o : Order) (scale n : ℕ) (m : StationMeaning) (scaled : m .scale ≡
   busy-sound i j (endless edges) lawful more burst = absurd (omega arith)
   busy-sound i j (lasting life words next edges) lawful more burst = record {
     move-known = follows-known i (suc j) next (drop (suc j) words) (lawful .next-here)
-      (λ h. burst (let e = length-drop (suc j) words in omega arith));
+        (λ h. burst (let e = length-drop (suc j) words in omega arith));
     hearing-known = λ p v e q s h. absurd (some-not-none s (sym h));
     busy-deaf = λ e p v x q. refl;
     lifetime-fits = λ l e. absurd (some-not-none l (sym e));
@@ -129,14 +130,14 @@ module _ (o : Order) (st : Station) (lawful : Lawful-station o st) where
   stance-sound i zero k =
       let here : i < length phases = ltb-true i (length phases) (and-parts _ _ k .0) in
       quiet-sound o (scale-of phases) (length phases) (station-meaning o st) refl fresh-known i (phase-at phases i)
-        (all-getD (Lawful-phase o (length phases)) phases i blank-phase here (lawful .phases-fit))
-        (λ two. burst-known i 0 here (omega arith))
+      (all-getD (Lawful-phase o (length phases)) phases i blank-phase here (lawful .phases-fit))
+      (λ two. burst-known i 0 here (omega arith))
   stance-sound i (suc j) k =
       let here : i < length phases = ltb-true i (length phases) (and-parts _ _ k .0) in
       let more = sent-fewer i j k in
       busy-sound o (scale-of phases) (length phases) (station-meaning o st) refl fresh-known i j (phase-at phases i)
-        (all-getD (Lawful-phase o (length phases)) phases i blank-phase here (lawful .phases-fit)) more
-        (λ again. burst-known i (suc j) here again)
+      (all-getD (Lawful-phase o (length phases)) phases i blank-phase here (lawful .phases-fit)) more
+      (λ again. burst-known i (suc j) here again)
 
   station-sound : SoundStation (station-meaning o st)
   station-sound = record {
@@ -151,7 +152,7 @@ model-sound m lawful = record {
   some-station = simp length-map (lawful .some-station);
   few-stations = simp length-map (lawful .few-stations);
   stations = all-map SoundStation (station-meaning (m .order)) (m .stations)
-    (all-weaker (Lawful-station (m .order)) _ (λ st l. station-sound (m .order) st l) (m .stations) (lawful .stations-fit));
+      (all-weaker (Lawful-station (m .order)) _ (λ st l. station-sound (m .order) st l) (m .stations) (lawful .stations-fit));
 }
 
 -- An automaton.
@@ -192,18 +193,19 @@ no-move (t ∷ ts) h = move-rest (t .label) (t .goal) _ (h .0) ∙ no-move ts (h
 module _ (a : Automaton) where
   committed-deaf : (c : Bool) (b : Option ℕ) (ts : List Transition) → Lawful-moves a c b ts → c ≡ true →
       (p v : ℕ) (t : Fraction) → first (transition-fits p v t) (λ x. x .goal) ts ≡ None
-  committed-deaf true b ts (t , (e , printed)) h p v x =
+  committed-deaf true b ts (t, (e, printed)) h p v x =
       subst (λ us. first (transition-fits p v x) (λ x. x .goal) us ≡ None) (sym e)
-        (first-of-none (transition-fits p v x) (λ x. x .goal) t (and-left _ _ (move-deaf p v (t .label) (printed .moves))))
+      (first-of-none (transition-fits p v x) (λ x. x .goal) t (and-left _ _ (move-deaf p v (t .label) (printed .moves))))
   committed-deaf false b ts moves h p v x = absurd (true-not-false (sym h))
 
   still : (c : Bool) (b : Option ℕ) (ts : List Transition) → (c ≡ true → b ≡ None) → Lawful-moves a c b ts →
       (move-among ts ≡ None) ↔ ((c ≡ false) × (b ≡ None))
-  still true b ts both (t , (e , printed)) =
+  still true b ts both (t, (e, printed)) =
       ((λ h. absurd (move-some (t .label) (t .goal) None (printed .moves) (sym (ap move-among e) ∙ h))), (λ h. absurd (true-not-false (h .0))))
-  still false (Some b) ts both (hs , (t , (e , (hears , printed)))) =
-      ( (λ h. absurd (move-some (t .label) (t .goal) None (printed .moves) (sym (behind-hearing hs (t ∷ []) hears) ∙ (sym (ap move-among e) ∙ h))))
-      , (λ h. absurd (some-not-none b (h .1))) )
+  still false (Some b) ts both (hs, (t, (e, (hears, printed)))) = (
+    (λ h. absurd (move-some (t .label) (t .goal) None (printed .moves) (sym (behind-hearing hs (t ∷ []) hears) ∙ (sym (ap move-among e) ∙ h)))),
+    (λ h. absurd (some-not-none b (h .1))),
+  )
   still false None ts both hears = ((λ h. (refl, refl)), (λ h. no-move ts hears))
 
   location-sound : (l : Location) → Lawful-location a l → SoundStance (automaton-meaning a) (location-stance l)
@@ -217,12 +219,15 @@ module _ (a : Automaton) where
     where
       goals : All (λ t. t .goal < length (a .locations)) (l .transitions)
       goals = all-weaker (Lawful-transition (length (a .locations)) (a .scale) (l .bound)) _ (λ t h. h .goal-here) (l .transitions) (lawful .transitions-fit)
+
       passed : (b : Bool) (x : Option ℕ) (s : ℕ) → cond b x None ≡ Some s → x ≡ Some s
       passed true x s e = e
       passed false x s e = absurd (some-not-none s (sym e))
+
       either : (b : Bool) (x : Option ℕ) → x ≡ None → cond b x None ≡ None
       either true x e = e
       either false x e = refl
+
       bound : (b : Option ℕ) → Bound-fits (a .scale) b → (k : ℕ) → b ≡ Some k → k ≤ 1000000 * a .scale
       bound None h k e = absurd (some-not-none k (sym e))
       bound (Some b) h k e = let r : b ≡ k = inner e in omega arith
@@ -240,7 +245,7 @@ automata-sound a lawful = record {
   some-station = simp length-map (lawful .some-automaton);
   few-stations = simp length-map (lawful .few-automata);
   stations = all-map SoundStation automaton-meaning (a .automata)
-    (all-weaker Lawful-automaton _ (λ x l. automaton-sound x l) (a .automata) (lawful .automata-fit));
+      (all-weaker Lawful-automaton _ (λ x l. automaton-sound x l) (a .automata) (lawful .automata-fit));
 }
 
 pub meanings-sound : Meanings-are-sound
@@ -258,18 +263,21 @@ gear-sound f m some fits sound = record {
     longer : (l : Option ℕ) → ((n : ℕ) → l ≡ Some n → n ≤ 1000000 * m .scale) → (n : ℕ) → mapped (λ x. x * f) l ≡ Some n → n ≤ 1000000 * (m .scale * f)
     longer None h n e = absurd (some-not-none n (sym e))
     longer (Some l) h n e = let r : l * f ≡ n = inner e in let k = mul-le-mul-right f (h l refl) in omega arith
+
     endless-too : (l : Option ℕ) → (mapped (λ x. x * f) l ≡ None → l ≡ None) × (l ≡ None → mapped (λ x. x * f) l ≡ None)
     endless-too None = ((λ e. refl), (λ e. refl))
     endless-too (Some l) = ((λ e. absurd (some-not-none _ e)), (λ e. absurd (some-not-none _ e)))
+
     stance : (x : Stance) → SoundStance m x → SoundStance (gear f m) (gear-stance f x)
     stance x h = record {
       move-known = h .move-known;
       hearing-known = λ p v e q s r. h .hearing-known p v e (q * f) s r;
       busy-deaf = λ b p v e q. h .busy-deaf b p v e (q * f);
       lifetime-fits = longer (x .lifetime) (h .lifetime-fits);
-      rests =
-        ( (λ e. (h .rests .0 e .0, endless-too (x .lifetime) .1 (h .rests .0 e .1)))
-        , (λ e. h .rests .1 (e .0, endless-too (x .lifetime) .0 (e .1))) );
+      rests = (
+        (λ e. (h .rests .0 e .0, endless-too (x .lifetime) .1 (h .rests .0 e .1))),
+        (λ e. h .rests .1 (e .0, endless-too (x .lifetime) .0 (e .1))),
+      );
     }
 
 -- a sound machine's scales divide its net scale
@@ -297,9 +305,9 @@ gearing-sound = record {
     some-station = simp length-map (sound .some-station);
     few-stations = simp length-map (sound .few-stations);
     stations = all-map SoundStation _ ms
-      (all-both SoundStation (λ m. m .scale * factor (net-scale ms) m ≡ net-scale ms) _
+        (all-both SoundStation (λ m. m .scale * factor (net-scale ms) m ≡ net-scale ms) _
         (λ m s e. gear-sound (factor (net-scale ms) m) m
-          (some-factor (m .scale) _ (net-scale ms) (least-common (map (λ x. x .scale) ms) .some) e) (omega arith) s)
+        (some-factor (m .scale) _ (net-scale ms) (least-common (map (λ x. x .scale) ms) .some) e) (omega arith) s)
         ms (sound .stations) (exact ms (sound .stations)));
   };
 }

@@ -46,14 +46,17 @@ automaton-rules factor a = record {
   may-wait = λ d x. within-bound (location-at a (x .location) .bound) (plus (x .clock) (over d factor));
   later = λ d x. record { location = x .location; clock = plus (x .clock) (over d factor) };
   Hears = λ x p v y.
-    Any (λ t. (transition-fits p v (x .clock) t ≡ true) × (y ≡ through t x)) (location-at a (x .location) .transitions);
+      Any (λ t. (transition-fits p v (x .clock) t ≡ true) × (y ≡ through t x)) (location-at a (x .location) .transitions);
   Deaf = λ x p v. All (λ t. transition-fits p v (x .clock) t ≡ false) (location-at a (x .location) .transitions);
   Moves = λ x w y.
-    Any (λ t. Moves-with (t .label) w × (inside whole (t .guard) (x .clock) ≡ true) × (y ≡ through t x))
+      Any (λ t. Moves-with (t .label) w × (inside whole (t .guard) (x .clock) ≡ true) × (y ≡ through t x))
       (location-at a (x .location) .transitions);
 }
 
+-- each automaton's rules in a net, by its place
+abbrev pub rules-of : AutomatonNet → ℕ → Rules AutomatonState
+rules-of a i = automaton-rules (automaton-scale a / automaton-at a i .scale) (automaton-at a i)
+
 -- By the automaton rules these acts lead, with these events, from σ to τ.
 abbrev pub AutomatonRun : AutomatonNet → (ℕ → AutomatonState) → List Act → List Event → (ℕ → AutomatonState) → Type 0
-AutomatonRun a =
-    Run (λ i. automaton-rules (automaton-scale a / automaton-at a i .scale) (automaton-at a i)) (length (a .automata)) (a .order) (a .paths)
+AutomatonRun a = Run (rules-of a) (length (a .automata)) (a .order) (a .paths)

@@ -64,11 +64,11 @@ pub record Made : Type 0 where
 abbrev pub make : Meaning → List Path → Order → ℕ → ℕ → Made
 make ms ps o q slots = record {
   answer =
-    unless (first-bad (misfit (net-scale ms)) 1 ms) (λ k. Err (refused Scale k))
-    (unless (bad-paths (length ms) ps) (λ k. Err (refused Paths k))
-    (unless (at-zero (ltb slots (length ms))) (λ k. Err (refused Room k))
-    (unless (at-zero (eqb q 0 || ltb 1000 q)) (λ k. Err (refused Parts k))
-    (Ok (created 1 ms)))));
+      unless (first-bad (misfit (net-scale ms)) 1 ms) (λ k. Err (refused Scale k))
+      (unless (bad-paths (length ms) ps) (λ k. Err (refused Paths k))
+      (unless (at-zero (ltb slots (length ms))) (λ k. Err (refused Room k))
+      (unless (at-zero (eqb q 0 || ltb 1000 q)) (λ k. Err (refused Parts k))
+      (Ok (created 1 ms)))));
   net = record { stations = geared ms; order = o; parts = q };
   state = record { stations = map (λ m. in-stance (m .opening) 0) ms; total = 0 };
 }
@@ -164,5 +164,5 @@ module _ (net : Net) where
   tells s zero = (0, 0, 0)
   tells s (suc i) =
       cond (ltb i (length (net .stations)))
-        (stance-at (net .stations) (s .stations) i .phase, stance-at (net .stations) (s .stations) i .sent, state-at (s .stations) i .elapsed)
-        (0, 0, 0)
+      (stance-at (net .stations) (s .stations) i .phase, stance-at (net .stations) (s .stations) i .sent, state-at (s .stations) i .elapsed)
+      (0, 0, 0)

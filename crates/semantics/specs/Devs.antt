@@ -26,7 +26,8 @@ use Rattle.semantics.specs.Fits.{edge-fits, first}
 use Rattle.semantics.specs.Membership.{At-most, Same-time}
 use Rattle.semantics.specs.Events.{leaves}
 use Rattle.semantics.specs.Calls.{lowest}
-use Rattle.semantics.specs.ModelRules.{ModelState, model-rules}
+use Rattle.semantics.specs.Runs.{Turn}
+use Rattle.semantics.specs.ModelRules.{ModelState, model-rules, rules-of}
 use Rattle.semantics.specs.LawfulModels.{Lawful-station}
 
 -- An atomic model on states S: the time advance (none is endless), the output function, and the internal and the
@@ -63,7 +64,7 @@ advance phases i (suc j) = Some zero-time
 abbrev pub hear : Order → List Phase → ℕ → ℕ → Fraction → Word → Option Burst
 hear o phases i zero t w =
     mapped (λ g. burst g 0)
-      (first (edge-fits o (lifetime-of (phase-at phases i)) (w .port) (w .value) t) (λ e. e .goal) (edges-of (phase-at phases i)))
+    (first (edge-fits o (lifetime-of (phase-at phases i)) (w .port) (w .value) t) (λ e. e .goal) (edges-of (phase-at phases i)))
 hear o phases i (suc j) t w = None
 
 -- a station as an atomic model
@@ -119,17 +120,21 @@ moved s t = aged s (age-after (s .sent) t)
 pub record Steps-as-atomic (o : Order) (scale : ℕ) (st : Station) (x : ModelState) : Type 0 where
   pub due-at-end : (model-rules o scale (st .phases) .due x ≡ true) ↔ ((x .sent ≡ 0) × Ends-at (atomic o st .time-advance (state-of x)) (x .age))
   pub waits-to-end : x .sent ≡ 0 → (d : Fraction) →
-    (model-rules o scale (st .phases) .may-wait d x ≡ true) ↔ Not-past (atomic o st .time-advance (state-of x)) (plus (x .age) (over d scale))
+      (model-rules o scale (st .phases) .may-wait d x ≡ true) ↔ Not-past (atomic o st .time-advance (state-of x)) (plus (x .age) (over d scale))
   -- it moves in no other way, and out of every phase that ends
   pub moves-so : (w : Option Word) (y : ModelState) → model-rules o scale (st .phases) .Moves x w y →
-    (w ≡ atomic o st .output (state-of x)) × (y ≡ moved (atomic o st .internal (state-of x)) (x .age))
+      (w ≡ atomic o st .output (state-of x)) × (y ≡ moved (atomic o st .internal (state-of x)) (x .age))
   pub may-move : (l : Fraction) → lifetime-of (phase-at (st .phases) (x .phase)) ≡ Some l →
-    model-rules o scale (st .phases) .Moves x (atomic o st .output (state-of x)) (moved (atomic o st .internal (state-of x)) (x .age))
+      model-rules o scale (st .phases) .Moves x (atomic o st .output (state-of x)) (moved (atomic o st .internal (state-of x)) (x .age))
   pub hears-so : (w : Word) (y : ModelState) →
-    model-rules o scale (st .phases) .Hears x (w .port) (w .value) y ↔ ((s : Burst) × ((atomic o st .external (state-of x) (x .age) w ≡ Some s) × (y ≡ aged s zero-time)))
+      model-rules o scale (st .phases) .Hears x (w .port) (w .value) y ↔ ((s : Burst) × ((atomic o st .external (state-of x) (x .age) w ≡ Some s) × (y ≡ aged s zero-time)))
   pub deaf-so : (w : Word) →
-    model-rules o scale (st .phases) .Deaf x (w .port) (w .value) ↔ (atomic o st .external (state-of x) (x .age) w ≡ None)
+      model-rules o scale (st .phases) .Deaf x (w .port) (w .value) ↔ (atomic o st .external (state-of x) (x .age) w ≡ None)
 
-abbrev pub Models-are-devs : Type 0
-Models-are-devs = (o : Order) (scale : ℕ) (st : Station) → Lawful-station o st →
-    (x : ModelState) → x .phase < length (st .phases) → Proper (x .age) → Steps-as-atomic o scale st x
+pub record Models-are-devs : Type 0 where
+  pub stations : (o : Order) (scale : ℕ) (st : Station) → Lawful-station o st →
+      (x : ModelState) → x .phase < length (st .phases) → Proper (x .age) → Steps-as-atomic o scale st x
+  -- in a run, a step acts for the station that is selected
+  pub turns : (m : ModelNet) (σ : ℕ → ModelState) (i : ℕ) →
+      Turn (rules-of m) (length (m .stations)) (m .order) (m .paths) σ i
+      ↔ (coupled m .select (λ k. rules-of m k .busy (σ k)) (λ k. rules-of m k .due (σ k)) ≡ Some i)

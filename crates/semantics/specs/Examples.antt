@@ -40,15 +40,15 @@ abbrev pub pair : Order → ModelNet
 pair o = record {
   order = o;
   stations =
-    record { opening = 0; phases = lasting (fraction 1 2) (sends 1 3 ∷ []) 0 [] ∷ [] }
-    ∷ record {
+      record { opening = 0; phases = lasting (fraction 1 2) (sends 1 3 ∷ []) 0 [] ∷ [] }
+      ∷ record {
         opening = 0;
         phases =
-          endless (edge 1 9 0 9 (window (fraction 0 1) false Absent) ∷ [])
-          ∷ lasting (fraction 4 3) [] 0 (edge 0 9 3 3 (window (fraction 1 3) true (Closed (fraction 2 3))) ∷ [])
-          ∷ [];
+            endless (edge 1 9 0 9 (window (fraction 0 1) false Absent) ∷ [])
+            ∷ lasting (fraction 4 3) [] 0 (edge 0 9 3 3 (window (fraction 1 3) true (Closed (fraction 2 3))) ∷ [])
+            ∷ [];
       }
-    ∷ [];
+      ∷ [];
   paths = path 1 1 2 9 ∷ [];
 }
 

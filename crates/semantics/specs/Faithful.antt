@@ -79,14 +79,14 @@ module _ (m : ModelNet) (a : AutomatonNet) (q slots : ℕ) (calls : List Call) w
 
   pub record Agrees : Type 0 where
     pub same-answers :
-      answers (model-made m q slots .net) (m .paths) calls (model-made m q slots .state)
-      ≡ answers (automata-made a q slots .net) (a .paths) calls (automata-made a q slots .state)
+        answers (model-made m q slots .net) (m .paths) calls (model-made m q slots .state)
+        ≡ answers (automata-made a q slots .net) (a .paths) calls (automata-made a q slots .state)
     pub same-tellings : (k : ℕ) → tells (model-made m q slots .net) model-left k ≡ tells (automata-made a q slots .net) automata-left k
     -- the starts of runs stand as told, and from all that do the runs are the same
     pub model-starts : Model-stands m q model-left (model-start m q model-left)
     pub automata-start : Automata-stand a q automata-left (automaton-start a q automata-left)
     pub same-runs : (σ : ℕ → ModelState) (τ : ℕ → AutomatonState) → Model-stands m q model-left σ → Automata-stand a q automata-left τ →
-      (acts : List Act) (es : List Event) → SameRuns m a σ τ acts es
+        (acts : List Act) (es : List Event) → SameRuns m a σ τ acts es
 
 -- Equal makings for all parts and room; and after every one that succeeds, agreement over every list of calls.
 pub record Faithful (m : ModelNet) (a : AutomatonNet) : Type 0 where

@@ -24,15 +24,15 @@ is-move (Sends port value) = true
 
 abbrev pub Lawful-label : Label → Type 0
 Lawful-label Silent = Unit {0}
-Lawful-label (Hears port lowest highest) = Byte port × ((lowest ≤ highest) × Byte highest) -- Limits
+Lawful-label (Hears port lowest highest) = Byte port × ((lowest ≤ highest) × Byte highest)  -- Limits
 Lawful-label (Sends port value) = Byte port × Byte value
 
 -- a transition of an automaton with n locations and this scale, from a location with this bound
 pub record Lawful-transition (n scale : ℕ) (bound : Option ℕ) (t : Transition) : Type 0 where
-  pub goal-here : t .goal < n -- Goals
+  pub goal-here : t .goal < n  -- Goals
   pub label-fits : Lawful-label (t .label)
-  pub low-fits : t .guard .low ≤ 1000000 * scale -- Limits
-  pub high-fits : High-fits (λ h. h ≤ 1000000 * scale) (t .guard .high) -- Limits
+  pub low-fits : t .guard .low ≤ 1000000 * scale  -- Limits
+  pub high-fits : High-fits (λ h. h ≤ 1000000 * scale) (t .guard .high)  -- Limits
   -- some moment up to and with the bound is in the guard: EmptyWindow
   pub guard-holds : (x : Fraction) × (Proper x × ((inside whole (t .guard) x ≡ true) × (within-bound bound x ≡ true)))
 
@@ -58,18 +58,18 @@ Bound-fits scale (Some b) = b ≤ 1000000 * scale
 pub record Lawful-location (a : Automaton) (l : Location) : Type 0 where
   pub phase-width : Two (l .phase)
   pub sent-width : Byte (l .sent)
-  pub bound-fits : Bound-fits (a .scale) (l .bound) -- Limits
+  pub bound-fits : Bound-fits (a .scale) (l .bound)  -- Limits
   pub transitions-fit : All (Lawful-transition (length (a .locations)) (a .scale) (l .bound)) (l .transitions)
   -- no two hearing transitions share port, value and moment up to the bound: SharedMoment
   pub guards-apart : (p v : ℕ) (t : Fraction) → Proper t → within-bound (l .bound) t ≡ true → At-most-one (transition-fits p v t) (l .transitions)
-  pub not-both : l .committed ≡ true → l .bound ≡ None -- Location
+  pub not-both : l .committed ≡ true → l .bound ≡ None  -- Location
   pub moves-fit : Lawful-moves a (l .committed) (l .bound) (l .transitions)
-  pub hearing-resets : All (λ t. is-move (t .label) ≡ false → t .resets ≡ true) (l .transitions) -- Location
+  pub hearing-resets : All (λ t. is-move (t .label) ≡ false → t .resets ≡ true) (l .transitions)  -- Location
 
 pub record Lawful-automaton (a : Automaton) : Type 0 where
-  pub some-scale : 1 ≤ a .scale -- Limits
-  pub scale-fits : a .scale ≤ 1000000 -- Limits
-  pub opening-here : a .opening < length (a .locations) -- Goals
+  pub some-scale : 1 ≤ a .scale  -- Limits
+  pub scale-fits : a .scale ≤ 1000000  -- Limits
+  pub opening-here : a .opening < length (a .locations)  -- Goals
   pub locations-fit : All (Lawful-location a) (a .locations)
 
 abbrev pub location-records : Location → ℕ
@@ -82,9 +82,9 @@ abbrev pub automata-records : AutomatonNet → ℕ
 automata-records a = sumBy automaton-records (a .automata) + length (a .paths)
 
 pub record LawfulAutomata (a : AutomatonNet) : Type 0 where
-  pub some-automaton : 1 ≤ length (a .automata) -- as for a model net
-  pub few-automata : length (a .automata) ≤ 16 -- Limits
-  pub scale-fits : automaton-scale a ≤ 1000000 -- Scale
+  pub some-automaton : 1 ≤ length (a .automata)  -- as for a model net
+  pub few-automata : length (a .automata) ≤ 16  -- Limits
+  pub scale-fits : automaton-scale a ≤ 1000000  -- Scale
   pub automata-fit : All Lawful-automaton (a .automata)
   pub paths-fit : All (Lawful-path (length (a .automata))) (a .paths)
-  pub few-records : automata-records a ≤ 2000 -- Head
+  pub few-records : automata-records a ≤ 2000  -- Head

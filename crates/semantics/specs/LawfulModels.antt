@@ -28,12 +28,12 @@ Lawful-word w = Byte (w .port) × Byte (w .value)
 
 -- an edge of a station with n phases
 pub record Lawful-edge (n : ℕ) (e : Edge) : Type 0 where
-  pub goal-here : e .goal < n -- Goals
+  pub goal-here : e .goal < n  -- Goals
   pub port-width : Byte (e .port)
-  pub values-ordered : e .lowest ≤ e .highest -- Limits
+  pub values-ordered : e .lowest ≤ e .highest  -- Limits
   pub value-width : Byte (e .highest)
-  pub low-fits : Small-time (e .window .low) -- Limits
-  pub high-fits : High-fits Small-time (e .window .high) -- Limits
+  pub low-fits : Small-time (e .window .low)  -- Limits
+  pub high-fits : High-fits Small-time (e .window .high)  -- Limits
 
 abbrev pub Next-here : ℕ → Phase → Type 0
 Next-here n (endless edges) = Unit {0}
@@ -44,19 +44,19 @@ abbrev pub Window-holds : Order → Option Fraction → Edge → Type 0
 Window-holds o life e = (t : Fraction) × (Proper t × ((inside itself (e .window) t && counts o life t) ≡ true))
 
 pub record Lawful-phase (o : Order) (n : ℕ) (f : Phase) : Type 0 where
-  pub life-fits : Small-life (lifetime-of f) -- Limits
-  pub next-here : Next-here n f -- Goals
-  pub few-words : length (words-of f) ≤ 4 -- Limits
+  pub life-fits : Small-life (lifetime-of f)  -- Limits
+  pub next-here : Next-here n f  -- Goals
+  pub few-words : length (words-of f) ≤ 4  -- Limits
   pub words-fit : All Lawful-word (words-of f)
   pub edges-fit : All (Lawful-edge n) (edges-of f)
-  pub windows-hold : All (Window-holds o (lifetime-of f)) (edges-of f) -- EmptyWindow
+  pub windows-hold : All (Window-holds o (lifetime-of f)) (edges-of f)  -- EmptyWindow
   -- no two edges share port, value and moment: SharedMoment
   pub edges-apart : (p v : ℕ) (t : Fraction) → Proper t → At-most-one (edge-fits o (lifetime-of f) p v t) (edges-of f)
 
 pub record Lawful-station (o : Order) (st : Station) : Type 0 where
-  pub opening-here : st .opening < length (st .phases) -- Goals
-  pub few-phases : length (st .phases) ≤ 200 -- Limits
-  pub scale-fits : station-scale st ≤ 1000000 -- Scale
+  pub opening-here : st .opening < length (st .phases)  -- Goals
+  pub few-phases : length (st .phases) ≤ 200  -- Limits
+  pub scale-fits : station-scale st ≤ 1000000  -- Scale
   pub phases-fit : All (Lawful-phase o (length (st .phases))) (st .phases)
 
 -- how many records a phase with its words and edges takes, a station with its phases, and a model net
@@ -70,9 +70,9 @@ abbrev pub model-records : ModelNet → ℕ
 model-records m = sumBy station-records (m .stations) + length (m .paths)
 
 pub record LawfulModel (m : ModelNet) : Type 0 where
-  pub some-station : 1 ≤ length (m .stations) -- Length and Links: a record is there, and reached; Paths: a path needs a station
-  pub few-stations : length (m .stations) ≤ 16 -- Limits
-  pub scale-fits : model-scale m ≤ 1000000 -- Scale
+  pub some-station : 1 ≤ length (m .stations)  -- Length and Links: a record is there, and reached; Paths: a path needs a station
+  pub few-stations : length (m .stations) ≤ 16  -- Limits
+  pub scale-fits : model-scale m ≤ 1000000  -- Scale
   pub stations-fit : All (Lawful-station (m .order)) (m .stations)
   pub paths-fit : All (Lawful-path (length (m .stations))) (m .paths)
-  pub few-records : model-records m ≤ 1000 -- Head
+  pub few-records : model-records m ≤ 1000  -- Head

@@ -44,7 +44,7 @@ quiet-stance o scale i f = record {
   lifetime = life-ticks scale (lifetime-of f);
   move = first-move i f;
   hears = λ p v e q.
-    first (edge-fits o (lifetime-of f) p v (fraction e (q * scale))) (λ x. stance-number (x .goal) 0) (edges-of f);
+      first (edge-fits o (lifetime-of f) p v (fraction e (q * scale))) (λ x. stance-number (x .goal) 0) (edges-of f);
 }
 
 -- The same phase in the midst of sending, with j words sent: it hears nothing, and no time is set for its next move.
@@ -93,7 +93,7 @@ location-stance l = record {
   lifetime = l .bound;
   move = move-among (l .transitions);
   hears = λ p v e q.
-    cond (within-bound (l .bound) (fraction e q)) (first (transition-fits p v (fraction e q)) (λ x. x .goal) (l .transitions)) None;
+      cond (within-bound (l .bound) (fraction e q)) (first (transition-fits p v (fraction e q)) (λ x. x .goal) (l .transitions)) None;
 }
 
 abbrev pub automaton-meaning : Automaton → StationMeaning

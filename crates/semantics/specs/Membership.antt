@@ -72,6 +72,6 @@ pub record Membership : Type 0 where
   pub counts-decides : (o : Order) (life : Option Fraction) (t : Fraction) → Decides (counts o life t) (Counts o life t)
   pub word-decides : (port lowest highest p v : ℕ) → Decides (word-fits port lowest highest p v) (Word-fits port lowest highest p v)
   pub edge-decides : (o : Order) (life : Option Fraction) (p v : ℕ) (t : Fraction) (e : Edge) →
-    Decides (edge-fits o life p v t e) (Edge-fits o life p v t e)
+      Decides (edge-fits o life p v t e) (Edge-fits o life p v t e)
   pub transition-decides : (p v : ℕ) (t : Fraction) (x : Transition) → Decides (transition-fits p v t x) (Transition-fits p v t x)
   pub bound-decides : (b : Option ℕ) (t : Fraction) → Decides (within-bound b t) (Within-bound b t)

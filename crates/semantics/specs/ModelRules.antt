@@ -63,17 +63,20 @@ model-rules o scale phases = record {
   may-wait = λ d x. lasts (lifetime-of (phase-at phases (x .phase))) (plus (x .age) (over d scale));
   later = λ d x. record { phase = x .phase; sent = x .sent; age = plus (x .age) (over d scale) };
   Hears = λ x p v y.
-    (x .sent ≡ 0)
-    × Any (λ e. (edge-fits o (lifetime-of (phase-at phases (x .phase))) p v (x .age) e ≡ true) × (y ≡ fresh (e .goal)))
-        (edges-of (phase-at phases (x .phase)));
+      (x .sent ≡ 0)
+      × Any (λ e. (edge-fits o (lifetime-of (phase-at phases (x .phase))) p v (x .age) e ≡ true) × (y ≡ fresh (e .goal)))
+      (edges-of (phase-at phases (x .phase)));
   Deaf = λ x p v.
-    (0 < x .sent)
-    ⊎ All (λ e. edge-fits o (lifetime-of (phase-at phases (x .phase))) p v (x .age) e ≡ false)
-        (edges-of (phase-at phases (x .phase)));
+      (0 < x .sent)
+      ⊎ All (λ e. edge-fits o (lifetime-of (phase-at phases (x .phase))) p v (x .age) e ≡ false)
+      (edges-of (phase-at phases (x .phase)));
   Moves = λ x w y. Leaves (phase-at phases (x .phase)) x w y;
 }
 
+-- each station's rules in a net, by its place
+abbrev pub rules-of : ModelNet → ℕ → Rules ModelState
+rules-of m i = model-rules (m .order) (model-scale m) (station-at m i .phases)
+
 -- By the model's rules these acts lead, with these events, from σ to τ.
 abbrev pub ModelRun : ModelNet → (ℕ → ModelState) → List Act → List Event → (ℕ → ModelState) → Type 0
-ModelRun m =
-    Run (λ i. model-rules (m .order) (model-scale m) (station-at m i .phases)) (length (m .stations)) (m .order) (m .paths)
+ModelRun m = Run (rules-of m) (length (m .stations)) (m .order) (m .paths)

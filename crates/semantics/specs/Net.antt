@@ -78,7 +78,7 @@ abbrev pub heard : Meaning → List StationState → ℕ → ℕ → ℕ → Opt
 heard ms σ h port v None = passed (event Arrival (suc h) port v ∷ []) σ
 heard ms σ h port v (Some s) =
     passed (event Arrival (suc h) port v ∷ event External (suc h) 0 (meaning-at ms h .stance s .phase) ∷ [])
-      (set σ h (in-stance s 0))
+    (set σ h (in-stance s 0))
 
 -- a word arrives at station k, or outside
 abbrev pub arrive : Meaning → ℕ → List StationState → ℕ → ℕ → ℕ → Passed
@@ -91,8 +91,8 @@ abbrev pub deliver : Meaning → ℕ → List Path → ℕ → ℕ → ℕ → L
 deliver ms q [] from port v σ = passed [] σ
 deliver ms q (p ∷ ps) from port v σ =
     cond (leaves p from port)
-      (and-then (arrive ms q σ (p .hearer) (p .«hearer_port») v) (deliver ms q ps from port v))
-      (deliver ms q ps from port v σ)
+    (and-then (arrive ms q σ (p .hearer) (p .«hearer_port») v) (deliver ms q ps from port v))
+    (deliver ms q ps from port v σ)
 
 -- the output: the word of a move, if any, goes along the paths
 abbrev pub send : Meaning → ℕ → List Path → ℕ → Option Word → List StationState → Passed
@@ -104,7 +104,7 @@ send ms q ps i (Some w) σ =
 abbrev pub land : ℕ → ℕ → ℕ → Stance → List StationState → Passed
 land i s e x σ =
     cond (x .busy) (passed [] (set σ i (in-stance s e)))
-      (passed (event Internal (suc i) 0 (x .phase) ∷ []) (set σ i (in-stance s 0)))
+    (passed (event Internal (suc i) 0 (x .phase) ∷ []) (set σ i (in-stance s 0)))
 
 -- the station of place i makes its move: first its word is delivered, then it takes the following stance
 abbrev pub act : Meaning → ℕ → List Path → ℕ → Option Move → List StationState → Passed

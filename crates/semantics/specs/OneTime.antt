@@ -59,7 +59,7 @@ pub record Equal-fractions-are-one-time : Type 0 where
   pub inside-same : (v w : Window Fraction) (t u : Fraction) → One-window v w → One-time t u → inside itself v t ≡ inside itself w u
   pub counts-same : (o : Order) (l k : Option Fraction) (t u : Fraction) → One-life l k → One-time t u → counts o l t ≡ counts o k u
   pub edge-same : (o : Order) (l k : Option Fraction) (p v : ℕ) (t u : Fraction) (d e : Edge) → One-life l k → One-time t u → One-edge d e →
-    edge-fits o l p v t d ≡ edge-fits o k p v u e
+      edge-fits o l p v t d ≡ edge-fits o k p v u e
   pub guard-same : (g : Window ℕ) (t u : Fraction) → One-time t u → inside whole g t ≡ inside whole g u
   pub transition-same : (p v : ℕ) (t u : Fraction) (x : Transition) → One-time t u → transition-fits p v t x ≡ transition-fits p v u x
   pub bound-same : (b : Option ℕ) (t u : Fraction) → One-time t u → within-bound b t ≡ within-bound b u
@@ -68,6 +68,6 @@ pub record Equal-fractions-are-one-time : Type 0 where
   pub is-over-same : (l k : Option Fraction) (t u : Fraction) → One-life l k → One-time t u → is-over l t ≡ is-over k u
   -- e parts of q to a tick are what d parts of r to a tick are, wherever a stance is asked what it hears
   pub model-hears-same : (o : Order) (scale i : ℕ) (f : Phase) (p v e q d r : ℕ) → 1 ≤ scale → One-time (fraction e q) (fraction d r) →
-    quiet-stance o scale i f .hears p v e q ≡ quiet-stance o scale i f .hears p v d r
+      quiet-stance o scale i f .hears p v e q ≡ quiet-stance o scale i f .hears p v d r
   pub automaton-hears-same : (l : Location) (p v e q d r : ℕ) → One-time (fraction e q) (fraction d r) →
-    location-stance l .hears p v e q ≡ location-stance l .hears p v d r
+      location-stance l .hears p v e q ≡ location-stance l .hears p v d r

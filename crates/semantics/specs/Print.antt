@@ -88,8 +88,8 @@ print-quiet o s all i here f = record {
   committed = false;
   bound = life-ticks s (lifetime-of f);
   transitions =
-    map (print-edge o s all (lifetime-of f)) (edges-of f)
-    ++ print-moves here (place-of all (next-of f)) (life-ticks s (lifetime-of f)) (words-of f);
+      map (print-edge o s all (lifetime-of f)) (edges-of f)
+      ++ print-moves here (place-of all (next-of f)) (life-ticks s (lifetime-of f)) (words-of f);
 }
 
 -- all the locations of one phase

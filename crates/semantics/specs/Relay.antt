@@ -33,9 +33,9 @@ relay = record {
   stations = record {
     opening = 0;
     phases =
-      endless (record { goal = 1; port = 1; lowest = 5; highest = 9; window = record { low = fraction 0 1; «low_open» = false; high = Absent } } ∷ [])
-      ∷ lasting (fraction 3 2) (sends 2 7 ∷ sends 2 8 ∷ []) 0 []
-      ∷ [];
+        endless (record { goal = 1; port = 1; lowest = 5; highest = 9; window = record { low = fraction 0 1; «low_open» = false; high = Absent } } ∷ [])
+        ∷ lasting (fraction 3 2) (sends 2 7 ∷ sends 2 8 ∷ []) 0 []
+        ∷ [];
   } ∷ [];
   paths = path 0 1 1 1 ∷ path 1 2 0 4 ∷ [];
 }
@@ -92,7 +92,7 @@ parts-of-a-tick = acts.word 1 5 ∷ acts.delay (fraction 7 3) ∷ acts.delay (fr
 
 pub record Relay-runs : Type 0 where
   pub by-model :
-    (τ : ℕ → ModelState) × ModelRun relay (model-start relay 1 (model-made relay 1 1 .state)) parts-of-a-tick (heard ++ (first-step ++ second-step)) τ
+      (τ : ℕ → ModelState) × ModelRun relay (model-start relay 1 (model-made relay 1 1 .state)) parts-of-a-tick (heard ++ (first-step ++ second-step)) τ
   pub by-automaton :
-    (τ : ℕ → AutomatonState)
-    × AutomatonRun (print relay) (automaton-start (print relay) 1 (automata-made (print relay) 1 1 .state)) parts-of-a-tick (heard ++ (first-step ++ second-step)) τ
+      (τ : ℕ → AutomatonState)
+      × AutomatonRun (print relay) (automaton-start (print relay) 1 (automata-made (print relay) 1 1 .state)) parts-of-a-tick (heard ++ (first-step ++ second-step)) τ

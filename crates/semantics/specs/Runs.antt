@@ -52,24 +52,24 @@ module _ {X : Type 0} (rules : ℕ → Rules X) (n : ℕ) (order : Order) (paths
   pub data Delivered (from port v : ℕ) : List Path → (ℕ → X) → List Event → (ℕ → X) → Type 0 where
     done : {σ : ℕ → X} → Delivered from port v [] σ [] σ
     elsewhere : {p : Path} {ps : List Path} {σ σ′ : ℕ → X} {es : List Event} →
-      leaves p from port ≡ false → Delivered from port v ps σ es σ′ → Delivered from port v (p ∷ ps) σ es σ′
+        leaves p from port ≡ false → Delivered from port v ps σ es σ′ → Delivered from port v (p ∷ ps) σ es σ′
     outside : {p : Path} {ps : List Path} {σ σ′ : ℕ → X} {es : List Event} →
-      leaves p from port ≡ true → p .hearer ≡ 0 →
-      Delivered from port v ps σ es σ′ → Delivered from port v (p ∷ ps) σ (event Arrival 0 (p .«hearer_port») v ∷ es) σ′
+        leaves p from port ≡ true → p .hearer ≡ 0 →
+        Delivered from port v ps σ es σ′ → Delivered from port v (p ∷ ps) σ (event Arrival 0 (p .«hearer_port») v ∷ es) σ′
     unheard : {p : Path} {ps : List Path} {σ σ′ : ℕ → X} {es : List Event} (h : ℕ) →
-      leaves p from port ≡ true → p .hearer ≡ suc h → h < n → rules h .Deaf (σ h) (p .«hearer_port») v →
-      Delivered from port v ps σ es σ′ → Delivered from port v (p ∷ ps) σ (event Arrival (suc h) (p .«hearer_port») v ∷ es) σ′
+        leaves p from port ≡ true → p .hearer ≡ suc h → h < n → rules h .Deaf (σ h) (p .«hearer_port») v →
+        Delivered from port v ps σ es σ′ → Delivered from port v (p ∷ ps) σ (event Arrival (suc h) (p .«hearer_port») v ∷ es) σ′
     heard : {p : Path} {ps : List Path} {σ σ′ : ℕ → X} {es : List Event} (h : ℕ) (x : X) →
-      leaves p from port ≡ true → p .hearer ≡ suc h → h < n → rules h .Hears (σ h) (p .«hearer_port») v x →
-      Delivered from port v ps (put σ h x) es σ′ →
-      Delivered from port v (p ∷ ps) σ (event Arrival (suc h) (p .«hearer_port») v ∷ event External (suc h) 0 (rules h .phase x) ∷ es) σ′
+        leaves p from port ≡ true → p .hearer ≡ suc h → h < n → rules h .Hears (σ h) (p .«hearer_port») v x →
+        Delivered from port v ps (put σ h x) es σ′ →
+        Delivered from port v (p ∷ ps) σ (event Arrival (suc h) (p .«hearer_port») v ∷ event External (suc h) 0 (rules h .phase x) ∷ es) σ′
 
   -- what the station at place i sends with its move: nothing, or a word that goes along the paths
   pub data Sent (i : ℕ) : Option Word → (ℕ → X) → List Event → (ℕ → X) → Type 0 where
     nothing : {σ : ℕ → X} → Sent i None σ [] σ
     one-word : {w : Word} {σ σ′ : ℕ → X} {es : List Event} →
-      Delivered (suc i) (w .port) (w .value) paths σ es σ′ →
-      Sent i (Some w) σ (event Output (suc i) (w .port) (w .value) ∷ es) σ′
+        Delivered (suc i) (w .port) (w .value) paths σ es σ′ →
+        Sent i (Some w) σ (event Output (suc i) (w .port) (w .value) ∷ es) σ′
 
   -- a move that ends in a quiet state is told
   abbrev pub landing : ℕ → X → List Event
@@ -79,14 +79,14 @@ module _ {X : Type 0} (rules : ℕ → Rules X) (n : ℕ) (order : Order) (paths
   -- step first a word only while none is due. A step takes its station's move: the word is delivered first.
   pub data Does : (ℕ → X) → Act → List Event → (ℕ → X) → Type 0 where
     delayed : {σ : ℕ → X} {d : Fraction} → Proper d → All-quiet σ →
-      ((i : ℕ) → i < n → rules i .may-wait d (σ i) ≡ true) → Does σ (delay d) [] (λ i. rules i .later d (σ i))
+        ((i : ℕ) → i < n → rules i .may-wait d (σ i) ≡ true) → Does σ (delay d) [] (λ i. rules i .later d (σ i))
     worded : {σ σ′ : ℕ → X} {p v : ℕ} {es : List Event} → All-quiet σ → (order ≡ StepFirst → None-due σ) →
-      Delivered 0 p v paths σ es σ′ → Does σ (word p v) es σ′
+        Delivered 0 p v paths σ es σ′ → Does σ (word p v) es σ′
     stepped : {σ σ′ : ℕ → X} {es : List Event} (i : ℕ) (w : Option Word) (x : X) →
-      Turn σ i → rules i .Moves (σ i) w x → Sent i w σ es σ′ → Does σ step (es ++ landing i x) (put σ′ i x)
+        Turn σ i → rules i .Moves (σ i) w x → Sent i w σ es σ′ → Does σ step (es ++ landing i x) (put σ′ i x)
 
   -- A run: the acts lead, with all these events, from the one state to the other.
   pub data Run : (ℕ → X) → List Act → List Event → (ℕ → X) → Type 0 where
     ended : {σ : ℕ → X} → Run σ [] [] σ
     goes-on : {σ σ′ τ : ℕ → X} {a : Act} {acts : List Act} {es fs : List Event} →
-      Does σ a es σ′ → Run σ′ acts fs τ → Run σ (a ∷ acts) (es ++ fs) τ
+        Does σ a es σ′ → Run σ′ acts fs τ → Run σ (a ∷ acts) (es ++ fs) τ

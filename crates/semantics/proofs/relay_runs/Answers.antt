@@ -16,20 +16,22 @@ none-below P i l = absurd (omega arith)
 
 pub returns : need.returns
 returns c = record {
-  by-model =
-    ( _
-    , goes-on (worded (only _ refl) (λ _. only _ refl) (heard 0 _ refl refl (omega arith) (refl, inl (refl, refl)) (elsewhere refl done)))
-      (goes-on (delayed (omega arith) (only _ refl) (only _ refl))
-      (goes-on (delayed (omega arith) (only _ refl) (only _ refl))
-      (goes-on (stepped 0 (Some (record { port = 2; value = 7 })) _ (lowest-due (only _ refl) (omega arith) refl (none-below _)) (refl, refl) (one-word (elsewhere refl (outside refl refl done))))
-      (goes-on (stepped 0 (Some (record { port = 2; value = 8 })) _ (lowest-busy (omega arith) refl (none-below _)) (refl, refl) (one-word (elsewhere refl (outside refl refl done))))
-      ended)))) );
-  by-automaton =
-    ( _
-    , goes-on (worded (only _ refl) (λ _. only _ refl) (heard 0 _ refl refl (omega arith) (inl (refl, refl)) (elsewhere refl done)))
-      (goes-on (delayed (omega arith) (only _ refl) (only _ refl))
-      (goes-on (delayed (omega arith) (only _ refl) (only _ refl))
-      (goes-on (stepped 0 (Some (record { port = 2; value = 7 })) _ (lowest-due (only _ refl) (omega arith) refl (none-below _)) (inl (refl, refl, refl)) (one-word (elsewhere refl (outside refl refl done))))
-      (goes-on (stepped 0 (Some (record { port = 2; value = 8 })) _ (lowest-busy (omega arith) refl (none-below _)) (inl (refl, refl, refl)) (one-word (elsewhere refl (outside refl refl done))))
-      ended)))) );
+  by-model = (
+    _,
+    goes-on (worded (only _ refl) (λ _. only _ refl) (heard 0 _ refl refl (omega arith) (refl, inl (refl, refl)) (elsewhere refl done)))
+        (goes-on (delayed (omega arith) (only _ refl) (only _ refl))
+        (goes-on (delayed (omega arith) (only _ refl) (only _ refl))
+        (goes-on (stepped 0 (Some (record { port = 2; value = 7 })) _ (lowest-due (only _ refl) (omega arith) refl (none-below _)) (refl, refl) (one-word (elsewhere refl (outside refl refl done))))
+        (goes-on (stepped 0 (Some (record { port = 2; value = 8 })) _ (lowest-busy (omega arith) refl (none-below _)) (refl, refl) (one-word (elsewhere refl (outside refl refl done))))
+        ended)))),
+  );
+  by-automaton = (
+    _,
+    goes-on (worded (only _ refl) (λ _. only _ refl) (heard 0 _ refl refl (omega arith) (inl (refl, refl)) (elsewhere refl done)))
+        (goes-on (delayed (omega arith) (only _ refl) (only _ refl))
+        (goes-on (delayed (omega arith) (only _ refl) (only _ refl))
+        (goes-on (stepped 0 (Some (record { port = 2; value = 7 })) _ (lowest-due (only _ refl) (omega arith) refl (none-below _)) (inl (refl, refl, refl)) (one-word (elsewhere refl (outside refl refl done))))
+        (goes-on (stepped 0 (Some (record { port = 2; value = 8 })) _ (lowest-busy (omega arith) refl (none-below _)) (inl (refl, refl, refl)) (one-word (elsewhere refl (outside refl refl done))))
+        ended)))),
+  );
 }
