@@ -1,8 +1,8 @@
 -- The meanings of lawful nets are sound, and gearing keeps soundness.
 use Prim.Native.Nat.{ℕ, zero, suc, _+_, _*_, _/_, _%_, _<_, _≤_, _∣_}
-use native.Mathlib.Nat.{div-le-self, mul-le-mul-right, mul-le-mul-left, mul-add-div, mul-add-mod-self-left, div-add-mod, mod-eq-of-lt, div-eq-of-lt, mul-div-cancel', one-le-mul}
+use native.Mathlib.Nat.{div-le-self, mul-le-mul-right, mul-le-mul-left, mul-add-div, mul-add-mod-self-left, div-add-mod, mod-eq-of-lt, div-eq-of-lt, mul-div-cancel', one-le-mul, le-div-iff-mul-le, zero-mul}
 use native.Mathlib.Omega.{arith}
-use lib.Dec.{eqb, ltb}
+use lib.Dec.{eqb, ltb, leb}
 use lib.ListN.{length, getD, drop, length-map, length-drop}
 use mathlib.Core.Bool.{Bool, true, false, cond, not, _&&_, _||_}
 use mathlib.Core.List.{List, [], _∷_, _++_, map}
@@ -13,13 +13,14 @@ use Rattle.std.specs.shelf.Lists.{All, joined}
 use Rattle.std.specs.declared.option.Option.{Option}
 use Rattle.std.specs.declared.option.Option.the-variants.{Some, None}
 use Rattle.std.proofs.shelf.Elements.{all-getD, all-map, all-weaker}
-use Rattle.std.proofs.shelf.Tests.{ltb-true, lt-ltb, eqb-true, and-parts, and-left, or-cases}
+use Rattle.std.proofs.shelf.Tests.{ltb-true, lt-ltb, leb-true, leb-false, le-leb, eqb-true, and-parts, and-left, or-cases}
 use Rattle.std.proofs.shelf.Ways.{tells}
 use Rattle.semantics.specs.Times.{Fraction, fraction, Order}
 use Rattle.semantics.specs.Trees.{Word, Edge, Phase, endless, lasting, lifetime-of, words-of, edges-of, next-of, phase-at, blank-phase, Station, ModelNet, Label, Silent, Hears, Sends, Transition, Location, location-at, blank-location, Automaton, AutomatonNet}
 use Rattle.semantics.specs.Scales.{ticks, life-ticks, scale-of, phase-denominators}
 use Rattle.semantics.specs.Fits.{edge-fits, transition-fits, within-bound, first, label-fits}
 use Rattle.semantics.specs.Machine.{Move, Stance, StationMeaning, Meaning, SoundStance, SoundStation, Sound, gear, gear-stance, net-scale, factor, geared}
+use Rattle.semantics.specs.Questions.{parts-fit}
 use Rattle.semantics.specs.Meanings.{stance-number, phase-of, sent-of, move-with, first-move, quiet-stance, busy-stance, model-stance, model-known, station-meaning, label-move, move-among, location-stance, automaton-meaning, model-meaning, automata-meaning}
 use Rattle.semantics.specs.LawfulModels.{Lawful-edge, Lawful-phase, Lawful-station, LawfulModel, Next-here, Small-life}
 use Rattle.semantics.specs.LawfulAutomata.{is-move, Hears-only, Printed-move, Lawful-moves, Lawful-transition, Bound-fits, Lawful-location, Lawful-automaton, LawfulAutomata}
@@ -297,9 +298,30 @@ all-both : {X : Type 0} (P Q R : X → Type 0) → ((x : X) → P x → Q x → 
 all-both P Q R f [] h k = tt
 all-both P Q R f (x ∷ xs) h k = (f x (h .0) (k .0), all-both P Q R f xs (h .1) (k .1))
 
+-- as many parts as fit a finer scale, so many times fewer fit the coarser one
+parts-alike : (f q : ℕ) (m : StationMeaning) → 1 ≤ f → 1 ≤ m .scale → parts-fit (gear f m) q ≡ parts-fit m (q * f)
+parts-alike f q m some scaled = ap₂ _&&_ (ones q) (cross (leb q (1000000000 / (m .scale * f))) refl (leb (q * f) (1000000000 / m .scale)) refl)
+  where
+    fine : q ≤ 1000000000 / (m .scale * f) ↔ q * (m .scale * f) ≤ 1000000000
+    fine = le-div-iff-mul-le (one-le-mul scaled some)
+
+    coarse : q * f ≤ 1000000000 / m .scale ↔ q * f * m .scale ≤ 1000000000
+    coarse = le-div-iff-mul-le scaled
+
+    ones : (q : ℕ) → leb 1 q ≡ leb 1 (q * f)
+    ones zero = ap (leb 1) (sym (zero-mul f))
+    ones (suc q) = le-leb 1 (suc q) (omega arith) ∙ sym (le-leb 1 (suc q * f) (one-le-mul {a = suc q} (omega arith) some))
+
+    cross : (x : Bool) → leb q (1000000000 / (m .scale * f)) ≡ x → (y : Bool) → leb (q * f) (1000000000 / m .scale) ≡ y → x ≡ y
+    cross true a true b = refl
+    cross false a false b = refl
+    cross true a false b = absurd (let h = fine .0 (leb-true _ _ a) in let k : q * f ≤ 1000000000 / m .scale = coarse .1 (omega arith) in let l = leb-false _ _ b in omega arith)
+    cross false a true b = absurd (let h = coarse .0 (leb-true _ _ b) in let k : q ≤ 1000000000 / (m .scale * f) = fine .1 (omega arith) in let l = leb-false _ _ a in omega arith)
+
 pub gearing-sound : Gearing-keeps-sound
 gearing-sound = record {
   one-station = gear-sound;
+  parts-alike = parts-alike;
   to-net-scale = λ ms sound. all-map (λ m. m .scale ≡ net-scale ms) _ ms (exact ms (sound .stations));
   whole-machine = λ ms sound fits. record {
     some-station = simp length-map (sound .some-station);

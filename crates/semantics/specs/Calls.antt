@@ -17,7 +17,7 @@ use Rattle.semantics.specs.Times.{Order, StepFirst, WordFirst}
 use Rattle.semantics.specs.Trees.{Path}
 use Rattle.semantics.specs.Machine.{StationMeaning, Meaning, net-scale, factor, geared}
 use Rattle.semantics.specs.Events.{Event, event, Created}
-use Rattle.semantics.specs.Net.{StationState, Net, NetState, in-stance, meaning-at, state-at, stance-at, busy-at, due-at, past-at, Passed, deliver, act}
+use Rattle.semantics.specs.Net.{StationState, Net, NetState, in-stance, state-at, stance-at, busy-at, due-at, past-at, Passed, deliver, act}
 
 -- An answer is the list of events, or a refusal: its fault and its place.
 abbrev pub Answer : Type 0

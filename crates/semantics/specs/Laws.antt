@@ -6,6 +6,7 @@ use Rattle.std.specs.shelf.Lists.{All}
 use Rattle.semantics.specs.Trees.{ModelNet, AutomatonNet}
 use Rattle.semantics.specs.Scales.{lcm-all}
 use Rattle.semantics.specs.Machine.{StationMeaning, SoundStation, Meaning, Sound, net-scale, gear, geared}
+use Rattle.semantics.specs.Questions.{parts-fit}
 use Rattle.semantics.specs.Meanings.{stance-number, phase-of, sent-of, model-meaning, automata-meaning}
 use Rattle.semantics.specs.LawfulModels.{LawfulModel}
 use Rattle.semantics.specs.LawfulAutomata.{LawfulAutomata}
@@ -35,3 +36,5 @@ pub record Gearing-keeps-sound : Type 0 where
   pub one-station : (f : ℕ) (m : StationMeaning) → 1 ≤ f → m .scale * f ≤ 1000000 → SoundStation m → SoundStation (gear f m)
   pub to-net-scale : (ms : Meaning) → Sound ms → All (λ m. m .scale ≡ net-scale ms) (geared ms)
   pub whole-machine : (ms : Meaning) → Sound ms → net-scale ms ≤ 1000000 → Sound (geared ms)
+  -- the parts per tick that may be asked of a geared station are those that it may ask below
+  pub parts-alike : (f q : ℕ) (m : StationMeaning) → 1 ≤ f → 1 ≤ m .scale → parts-fit (gear f m) q ≡ parts-fit m (q * f)

@@ -4,6 +4,7 @@ pub mod Scales
 pub mod Fits
 pub mod Membership
 pub mod Machine
+pub mod Questions
 pub mod Meanings
 pub mod Events
 pub mod Net

@@ -40,6 +40,17 @@ pub record StationMeaning : Type 0 where
 abbrev pub Meaning : Type 0
 Meaning = List StationMeaning
 
+-- What stands at a place of that list, counted from 0: place i is station i + 1. Past the end stands a blank, which a net
+-- never comes to.
+abbrev pub blank-stance : Stance
+blank-stance = record { phase = 0; sent = 0; busy = false; lifetime = None; move = None; hears = λ p v e q. None }
+
+abbrev pub blank-meaning : StationMeaning
+blank-meaning = record { scale = 1; opening = 0; known = λ s. false; stance = λ s. blank-stance }
+
+abbrev pub meaning-at : Meaning → ℕ → StationMeaning
+meaning-at ms i = getD ms i blank-meaning
+
 -- What a sound station's stance is.
 pub record SoundStance (m : StationMeaning) (x : Stance) : Type 0 where
   -- what follows a move or a hearing is a stance of the station

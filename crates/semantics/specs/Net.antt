@@ -10,7 +10,7 @@ pub use Rattle.semantics.specs.declared.state.StationState.{StationState}
 use Rattle.semantics.specs.Times.{Order}
 use Rattle.semantics.specs.Trees.{Word, Path}
 use Rattle.semantics.specs.Events.{Event, event, leaves, Arrival, External, Output, Internal}
-use Rattle.semantics.specs.Machine.{Move, Stance, StationMeaning, Meaning}
+use Rattle.semantics.specs.Machine.{Move, Stance, Meaning, meaning-at}
 
 -- A net: its stations' meanings, geared to the net scale, its order, and its parts per net tick.
 pub record Net : Type 0 where
@@ -26,17 +26,7 @@ pub record NetState : Type 0 where
 abbrev pub in-stance : ℕ → ℕ → StationState
 in-stance s e = record { stance = s; elapsed = e }
 
--- What stands at a place of the lists, counted from 0: place i is station i + 1. Past the end stands a blank, which a
--- net never comes to.
-abbrev pub blank-stance : Stance
-blank-stance = record { phase = 0; sent = 0; busy = false; lifetime = None; move = None; hears = λ p v e q. None }
-
-abbrev pub blank-meaning : StationMeaning
-blank-meaning = record { scale = 1; opening = 0; known = λ s. false; stance = λ s. blank-stance }
-
-abbrev pub meaning-at : Meaning → ℕ → StationMeaning
-meaning-at ms i = getD ms i blank-meaning
-
+-- what stands at a place of the list, counted from 0: place i is station i + 1
 abbrev pub state-at : List StationState → ℕ → StationState
 state-at σ i = getD σ i (in-stance 0 0)
 

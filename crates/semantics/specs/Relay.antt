@@ -12,6 +12,8 @@ use Rattle.semantics.specs.Trees.{Word, Path, Edge, Phase, endless, lasting, S
 use Rattle.semantics.specs.Events.{Event, event, Arrival, External, Output, Internal, Created}
 use Rattle.semantics.specs.Calls.{Answer, Call, wait, word, step, answers, tells}
 use Rattle.semantics.specs.Print.{print}
+use Rattle.semantics.specs.LawfulModels.{LawfulModel}
+use Rattle.semantics.specs.LawfulAutomata.{LawfulAutomata}
 use Rattle.semantics.specs.Runs as acts
 use Rattle.semantics.specs.Runs.{Act}
 use Rattle.semantics.specs.ModelRules.{ModelState, ModelRun}
@@ -96,3 +98,8 @@ pub record Relay-runs : Type 0 where
   pub by-automaton :
       (τ : ℕ → AutomatonState)
       × AutomatonRun (print relay) (automaton-start (print relay) 1 (automata-made (print relay) 1 1 .state)) parts-of-a-tick (heard ++ (first-step ++ second-step)) τ
+
+-- The relay is lawful, and so is its print: what is said of lawful nets is said of these.
+pub record Relay-is-lawful : Type 0 where
+  pub model : LawfulModel relay
+  pub printed : LawfulAutomata (print relay)

@@ -3,7 +3,7 @@ ghost use Rattle.semantics.specs.Membership.{Membership};
 ghost use Rattle.semantics.specs.Laws.{Scales-are-least, Stance-numbers, Meanings-are-sound, Gearing-keeps-sound};
 ghost use Rattle.semantics.specs.OneTime.{Equal-fractions-are-one-time};
 ghost use Rattle.semantics.specs.Devs.{Models-are-devs};
-ghost use Rattle.semantics.specs.Relay.{Relay-works, Relay-runs};
+ghost use Rattle.semantics.specs.Relay.{Relay-works, Relay-runs, Relay-is-lawful};
 ghost use Rattle.semantics.specs.RelayBook.{Relay-reads};
 ghost use Rattle.semantics.specs.Examples.{Examples-work};
 
@@ -68,6 +68,13 @@ pub fn relay_works() -> u8
 // A run of the relay with fractional delays, by the model's rules and by the automaton rules.
 pub fn relay_runs() -> u8
     ensures { λ _. ⌜ Relay-runs ⌝ }
+{
+    0
+}
+
+// The relay and its print are lawful.
+pub fn relay_is_lawful() -> u8
+    ensures { λ _. ⌜ Relay-is-lawful ⌝ }
 {
     0
 }
