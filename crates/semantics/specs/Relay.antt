@@ -3,6 +3,7 @@ use Prim.Native.Nat.{ℕ, zero, suc}
 use mathlib.Core.Bool.{Bool, true, false}
 use mathlib.Core.List.{List, [], _∷_, _++_}
 use mathlib.Core.Path.{_≡_}
+use Rattle.std.specs.shelf.Lists.{joined}
 use Rattle.std.specs.declared.option.Option.the-variants.{Some, None}
 use Rattle.std.specs.declared.result.Result.the-variants.{Ok, Err}
 use Rattle.book.specs.Refusals.{refused}
@@ -68,14 +69,35 @@ told-by-model m q calls k = tells (model-made m q 6 .net) (model-left m (print m
 abbrev pub told-by-print : ModelNet → ℕ → List Call → ℕ → ℕ × ℕ × ℕ
 told-by-print m q calls k = tells (automata-made (print m) q 6 .net) (automata-left m (print m) q 6 calls) k
 
+-- all events of some answers, in order
+abbrev pub told : Answer → List Event
+told (Ok es) = es
+told (Err r) = []
+
+abbrev pub all-told : List Answer → List Event
+all-told answers = joined told answers
+
+abbrev pub eight-events : List Event
+eight-events =
+    event Created 1 0 1
+    ∷ event Arrival 1 1 5
+    ∷ event External 1 0 2
+    ∷ event Output 1 2 7
+    ∷ event Arrival 0 4 7
+    ∷ event Output 1 2 8
+    ∷ event Arrival 0 4 8
+    ∷ event Internal 1 0 1
+    ∷ []
+
 pub record Relay-works : Type 0 where
+  -- making and session give the eight events on the model and on the print, at 1 and at 3 parts per tick
+  pub on-the-model : all-told (model-made relay 1 6 .answer ∷ on-model relay 1 (session 3)) ≡ eight-events
+  pub on-the-print : all-told (automata-made (print relay) 1 6 .answer ∷ on-print relay 1 (session 3)) ≡ eight-events
+  pub finer-on-model : all-told (model-made relay 3 6 .answer ∷ on-model relay 3 (session 9)) ≡ eight-events
+  pub finer-on-print : all-told (automata-made (print relay) 3 6 .answer ∷ on-print relay 3 (session 9)) ≡ eight-events
+  -- call by call; one slot is enough for the making
   pub made : model-made relay 1 1 .answer ≡ Ok (event Created 1 0 1 ∷ [])
-  pub print-made : automata-made (print relay) 1 1 .answer ≡ Ok (event Created 1 0 1 ∷ [])
-  -- the session at 1 and at 3 parts per tick
-  pub on-the-model : on-model relay 1 (session 3) ≡ Ok heard ∷ Ok [] ∷ Ok first-step ∷ Ok second-step ∷ []
-  pub on-the-print : on-print relay 1 (session 3) ≡ Ok heard ∷ Ok [] ∷ Ok first-step ∷ Ok second-step ∷ []
-  pub finer-on-model : on-model relay 3 (session 9) ≡ Ok heard ∷ Ok [] ∷ Ok first-step ∷ Ok second-step ∷ []
-  pub finer-on-print : on-print relay 3 (session 9) ≡ Ok heard ∷ Ok [] ∷ Ok first-step ∷ Ok second-step ∷ []
+  pub by-calls : on-print relay 3 (session 9) ≡ Ok heard ∷ Ok [] ∷ Ok first-step ∷ Ok second-step ∷ []
   -- a wait of 4 in place of 3 is past the lifetime of station 1, and then no station is due
   pub too-long : on-model relay 1 (session 4) ≡ Ok heard ∷ Err (refused Lifetime 1) ∷ Err (refused Idle 0) ∷ Err (refused Idle 0) ∷ []
   -- a wait of 0 between its two words

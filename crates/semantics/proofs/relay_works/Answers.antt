@@ -4,7 +4,7 @@ use Rattle.semantics.proofs.relay_works.Needs as need
 pub returns : need.returns
 returns c = record {
   made = refl;
-  print-made = refl;
+  by-calls = refl;
   on-the-model = refl;
   on-the-print = refl;
   finer-on-model = refl;
