@@ -133,19 +133,19 @@ module _ (net : Net) where
       answered s (act (net .stations) (net .parts) ps i (stance-at (net .stations) (s .stations) i .move) (s .stations))
 
   -- How a net answers a call that comes with these paths. A step acts for the lowest busy station, else the lowest due one.
-  abbrev pub obey : List Path → Call → NetState → Outcome
-  obey ps (wait d) s =
+  abbrev pub answer-call : List Path → Call → NetState → Outcome
+  answer-call ps (wait d) s =
       unless (number (lowest-busy s)) (declined Busy s)
       (unless (number (lowest-past s d)) (declined Lifetime s)
       (unless (at-zero (ltb (10 ^ 15) (s .total + d))) (declined Total s)
       (record { answer = Ok []; state = waited d s })))
-  obey ps (word port value slots) s =
+  answer-call ps (word port value slots) s =
       unless (bad-paths (length (net .stations)) ps) (declined Paths s)
       (unless (at-zero (ltb slots (room ps))) (declined Room s)
       (unless (number (lowest-busy s)) (declined Busy s)
       (unless (number (due-before-words (net .order) s)) (declined Due s)
       (answered s (deliver (net .stations) (net .parts) ps 0 port value (s .stations))))))
-  obey ps (step slots) s =
+  answer-call ps (step slots) s =
       unless (bad-paths (length (net .stations)) ps) (declined Paths s)
       (unless (at-zero (ltb slots (room ps))) (declined Room s)
       (step-of ps s (orOther (lowest-busy s) (lowest-due s))))
@@ -153,16 +153,16 @@ module _ (net : Net) where
   -- A list of calls: all answers, and the state that is left.
   abbrev pub answers : List Path → List Call → NetState → List Answer
   answers ps [] s = []
-  answers ps (c ∷ cs) s = obey ps c s .answer ∷ answers ps cs (obey ps c s .state)
+  answers ps (c ∷ cs) s = answer-call ps c s .answer ∷ answers ps cs (answer-call ps c s .state)
 
   abbrev pub left-by : List Path → List Call → NetState → NetState
   left-by ps [] s = s
-  left-by ps (c ∷ cs) s = left-by ps cs (obey ps c s .state)
+  left-by ps (c ∷ cs) s = left-by ps cs (answer-call ps c s .state)
 
   -- What station k tells: its phase, words sent and elapsed parts together. Station 0 and one past the last tell zeros.
-  abbrev pub tells : NetState → ℕ → ℕ × ℕ × ℕ
-  tells s zero = (0, 0, 0)
-  tells s (suc i) =
+  abbrev pub telling : NetState → ℕ → ℕ × ℕ × ℕ
+  telling s zero = (0, 0, 0)
+  telling s (suc i) =
       cond (ltb i (length (net .stations)))
       (stance-at (net .stations) (s .stations) i .phase, stance-at (net .stations) (s .stations) i .sent, state-at (s .stations) i .elapsed)
       (0, 0, 0)

@@ -11,7 +11,7 @@ use Rattle.semantics.specs.Scales.{model-scale, automaton-scale, station-scale
 use Rattle.semantics.specs.Meanings.{model-meaning, automata-meaning}
 use Rattle.semantics.specs.Events.{Event}
 use Rattle.semantics.specs.Net.{Net, NetState, state-at}
-use Rattle.semantics.specs.Calls.{Made, make, Call, answers, left-by, tells}
+use Rattle.semantics.specs.Calls.{Made, make, Call, answers, left-by, telling}
 use Rattle.semantics.specs.Runs.{Act}
 use Rattle.semantics.specs.ModelRules.{ModelState, ModelRun}
 use Rattle.semantics.specs.AutomatonRules.{AutomatonState, AutomatonRun}
@@ -27,9 +27,9 @@ automata-made a q slots = make (automata-meaning a) (a .paths) (a .order) q slot
 -- seconds, and an automaton's clock e / (q × factor) of its own ticks.
 abbrev pub model-start : ModelNet → ℕ → NetState → ℕ → ModelState
 model-start m q s i = record {
-  phase = pred (tells (model-made m q 0 .net) s (suc i) .0);
-  sent = tells (model-made m q 0 .net) s (suc i) .1;
-  age = fraction (tells (model-made m q 0 .net) s (suc i) .2) (q * model-scale m);
+  phase = pred (telling (model-made m q 0 .net) s (suc i) .0);
+  sent = telling (model-made m q 0 .net) s (suc i) .1;
+  age = fraction (telling (model-made m q 0 .net) s (suc i) .2) (q * model-scale m);
 }
 
 abbrev pub automaton-start : AutomatonNet → ℕ → NetState → ℕ → AutomatonState
@@ -45,17 +45,17 @@ Is-time x t = Proper x × (same-time x t ≡ true)
 -- The states of a model run stand as the net tells them.
 abbrev pub Model-stands : ModelNet → ℕ → NetState → (ℕ → ModelState) → Type 0
 Model-stands m q s σ = (i : ℕ) → i < length (m .stations) →
-    (suc (σ i .phase) ≡ tells (model-made m q 0 .net) s (suc i) .0)
-    × (σ i .sent ≡ tells (model-made m q 0 .net) s (suc i) .1)
-    × Is-time (σ i .age) (fraction (tells (model-made m q 0 .net) s (suc i) .2) (q * model-scale m))
+    (suc (σ i .phase) ≡ telling (model-made m q 0 .net) s (suc i) .0)
+    × (σ i .sent ≡ telling (model-made m q 0 .net) s (suc i) .1)
+    × Is-time (σ i .age) (fraction (telling (model-made m q 0 .net) s (suc i) .2) (q * model-scale m))
 
 -- So do those of an automaton run.
 abbrev pub Automata-stand : AutomatonNet → ℕ → NetState → (ℕ → AutomatonState) → Type 0
 Automata-stand a q s τ = (i : ℕ) → i < length (a .automata) →
     (τ i .location < length (automaton-at a i .locations))
-    × (location-at (automaton-at a i) (τ i .location) .phase ≡ tells (automata-made a q 0 .net) s (suc i) .0)
-    × (location-at (automaton-at a i) (τ i .location) .sent ≡ tells (automata-made a q 0 .net) s (suc i) .1)
-    × Is-time (τ i .clock) (fraction (tells (automata-made a q 0 .net) s (suc i) .2) (q * (automaton-scale a / automaton-at a i .scale)))
+    × (location-at (automaton-at a i) (τ i .location) .phase ≡ telling (automata-made a q 0 .net) s (suc i) .0)
+    × (location-at (automaton-at a i) (τ i .location) .sent ≡ telling (automata-made a q 0 .net) s (suc i) .1)
+    × Is-time (τ i .clock) (fraction (telling (automata-made a q 0 .net) s (suc i) .2) (q * (automaton-scale a / automaton-at a i .scale)))
 
 -- A model's and an automaton's states correspond: phase and words sent are alike, and the clock, in seconds, is the age.
 abbrev pub Correspond : ModelNet → AutomatonNet → (ℕ → ModelState) → (ℕ → AutomatonState) → Type 0
@@ -81,7 +81,7 @@ module _ (m : ModelNet) (a : AutomatonNet) (q slots : ℕ) (calls : List Call) w
     pub same-answers :
         answers (model-made m q slots .net) (m .paths) calls (model-made m q slots .state)
         ≡ answers (automata-made a q slots .net) (a .paths) calls (automata-made a q slots .state)
-    pub same-tellings : (k : ℕ) → tells (model-made m q slots .net) model-left k ≡ tells (automata-made a q slots .net) automata-left k
+    pub same-tellings : (k : ℕ) → telling (model-made m q slots .net) model-left k ≡ telling (automata-made a q slots .net) automata-left k
     -- the starts of runs stand as told, and from all that do the runs are the same
     pub model-starts : Model-stands m q model-left (model-start m q model-left)
     pub automata-start : Automata-stand a q automata-left (automaton-start a q automata-left)

@@ -11,7 +11,7 @@ use Rattle.book.specs.declared.refusal.Fault.the-variants.{Busy, Lifetime, Idle
 use Rattle.semantics.specs.Times.{Fraction, fraction, Window, Closed, Absent, StepFirst, WordFirst}
 use Rattle.semantics.specs.Trees.{Word, Path, Edge, Phase, endless, lasting, Station, ModelNet}
 use Rattle.semantics.specs.Events.{Event, event, Arrival, External, Output, Internal, Created}
-use Rattle.semantics.specs.Calls.{Answer, Call, wait, word, step, answers, tells}
+use Rattle.semantics.specs.Calls.{Answer, Call, wait, word, step, answers, telling}
 use Rattle.semantics.specs.Print.{print}
 use Rattle.semantics.specs.LawfulModels.{LawfulModel}
 use Rattle.semantics.specs.LawfulAutomata.{LawfulAutomata}
@@ -64,10 +64,10 @@ abbrev pub on-print : ModelNet → ℕ → List Call → List Answer
 on-print m q calls = answers (automata-made (print m) q 6 .net) (m .paths) calls (automata-made (print m) q 6 .state)
 
 abbrev pub told-by-model : ModelNet → ℕ → List Call → ℕ → ℕ × ℕ × ℕ
-told-by-model m q calls k = tells (model-made m q 6 .net) (model-left m (print m) q 6 calls) k
+told-by-model m q calls k = telling (model-made m q 6 .net) (model-left m (print m) q 6 calls) k
 
 abbrev pub told-by-print : ModelNet → ℕ → List Call → ℕ → ℕ × ℕ × ℕ
-told-by-print m q calls k = tells (automata-made (print m) q 6 .net) (automata-left m (print m) q 6 calls) k
+told-by-print m q calls k = telling (automata-made (print m) q 6 .net) (automata-left m (print m) q 6 calls) k
 
 -- all events of some answers, in order
 abbrev pub told : Answer → List Event
