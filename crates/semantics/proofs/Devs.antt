@@ -1,29 +1,28 @@
 -- A station by the model's rules is the atomic model of its phases.
-use Prim.Native.Nat.{ℕ, zero, suc, _+_, _<_, _≤_}
+use Prim.Native.Nat.{ℕ, zero, suc, _<_}
 use native.Mathlib.Omega.{arith}
-use lib.Dec.{ltb, eqb}
 use lib.ListN.{length, drop}
-use mathlib.Core.Bool.{Bool, true, false, cond, _&&_}
+use mathlib.Core.Bool.{Bool, true, false, cond}
 use mathlib.Core.List.{List, [], _∷_}
 use mathlib.Core.Logic.{_↔_, _⊎_, inl, inr}
-use mathlib.Core.Path.{_≡_, refl, sym, _∙_, ap, ap₂, subst}
+use mathlib.Core.Path.{_≡_, refl, sym, _∙_, ap, ap₂}
 use Rattle.std.specs.Options.{mapped, orOther}
 use Rattle.std.specs.shelf.Lists.{All}
 use Rattle.std.specs.declared.option.Option.{Option}
 use Rattle.std.specs.declared.option.Option.the-variants.{Some, None}
 use Rattle.std.proofs.shelf.Elements.{all-getD}
-use Rattle.std.proofs.shelf.Tests.{eqb-true, eq-eqb, and-parts, and-from, leb-true, le-leb, both-ways}
+use Rattle.std.proofs.shelf.Tests.{eqb-true, eq-eqb, and-parts, leb-true, le-leb, both-ways}
 use Rattle.semantics.specs.Times.{Fraction, Proper, plus, over, zero-time, Order}
-use Rattle.semantics.specs.Trees.{Word, Path, Edge, Phase, endless, lasting, lifetime-of, words-of, edges-of, next-of, phase-at, blank-phase, Station}
+use Rattle.semantics.specs.Trees.{Word, Path, Phase, endless, lasting, lifetime-of, words-of, edges-of, next-of, phase-at, blank-phase, Station}
 use Rattle.semantics.specs.Fits.{edge-fits, first}
 use Rattle.semantics.specs.Calls.{lowest}
 use Rattle.semantics.specs.Runs.{Rules, Turn, lowest-busy, lowest-due}
 use Rattle.semantics.specs.Limits.{At-most-one}
 use Rattle.semantics.specs.LawfulModels.{Lawful-phase, Lawful-station}
-use Rattle.semantics.specs.ModelRules.{Any, ModelState, fresh, lasts, is-over, Sends-next, Leaves, model-rules, rules-of}
-use Rattle.semantics.specs.Devs.{Atomic, Burst, burst, first-word, after-word, advance, hear, atomic, Ends-at, Not-past, state-of, aged, moved, Steps-as-atomic, Models-are-devs}
+use Rattle.semantics.specs.ModelRules.{Any, ModelState, fresh, lasts, is-over, Sends-next, Leaves, rules-of}
+use Rattle.semantics.specs.Devs.{Burst, burst, first-word, after-word, hear, Ends-at, Not-past, aged, moved, Steps-as-atomic, Models-are-devs}
 use Rattle.semantics.proofs.Options.{some-not-none, inner}
-use Rattle.semantics.proofs.Lowest.{Lowest, is-lowest, all-fail, found, none-found}
+use Rattle.semantics.proofs.Lowest.{is-lowest, all-fail, found, none-found}
 
 over-ends : (l : Option Fraction) (t : Fraction) → (is-over l t ≡ true → Ends-at l t) × (Ends-at l t → is-over l t ≡ true)
 over-ends None t = ((λ e. both-ways false refl e), (λ e. absurd e))

@@ -1,17 +1,17 @@
 -- The tests of times, windows and words decide what they say.
 use Prim.Native.Nat.{ℕ, _≤_}
-use lib.Dec.{leb, eqb}
+use lib.Dec.{leb}
 use mathlib.Core.Bool.{Bool, true, false}
-use mathlib.Core.Path.{_≡_, refl}
+use mathlib.Core.Path.{refl}
 use Rattle.std.specs.Orderings.{Decides}
 use Rattle.std.specs.declared.option.Option.{Option}
 use Rattle.std.specs.declared.option.Option.the-variants.{Some, None}
 use Rattle.std.proofs.shelf.Tests.{leb-true, le-leb, false≢true}
 use Rattle.std.proofs.shelf.Ways.{decides-and, decides-ltb, decides-eqb}
-use Rattle.semantics.specs.Times.{Fraction, HighEnd, Closed, Open, Absent, Window, Order, StepFirst, WordFirst, at-most, before, same-time, past-low, under-high, inside, counts, itself, whole}
-use Rattle.semantics.specs.Trees.{Edge, Label, Silent, Hears, Sends, Transition}
-use Rattle.semantics.specs.Fits.{word-fits, label-fits, edge-fits, transition-fits, within-bound}
-use Rattle.semantics.specs.Membership.{At-most, Before, Same-time, Past-low, Under-high, Inside, Counts, Word-fits, Label-fits, Edge-fits, Transition-fits, Within-bound, Membership}
+use Rattle.semantics.specs.Times.{Fraction, HighEnd, Closed, Open, Absent, Window, Order, StepFirst, WordFirst, at-most, before, past-low, under-high, inside, counts, itself, whole}
+use Rattle.semantics.specs.Trees.{Label, Silent, Hears, Sends}
+use Rattle.semantics.specs.Fits.{word-fits, label-fits, within-bound}
+use Rattle.semantics.specs.Membership.{At-most, Before, Past-low, Under-high, Inside, Counts, Word-fits, Label-fits, Within-bound, Membership}
 
 decides-leb : (a b : ℕ) → Decides (leb a b) (a ≤ b)
 decides-leb a b = (leb-true a b, le-leb a b)

@@ -1,15 +1,15 @@
 -- Equal fractions are one time.
-use Prim.Native.Nat.{ℕ, zero, suc, _+_, _*_, _/_, _<_, _≤_}
+use Prim.Native.Nat.{ℕ, _*_, _/_, _<_, _≤_}
 use native.Mathlib.Nat.{mul-le-mul-right, le-of-mul-le-mul-right, mul-lt-mul-of-pos-right, lt-of-mul-lt-mul-right, eq-of-mul-eq-mul-right, mul-div-mul-right, one-le-mul}
 use native.Mathlib.Omega.{arith}
 use lib.Dec.{leb, ltb, eqb}
 use mathlib.Core.Bool.{Bool, true, false, cond, _&&_}
 use mathlib.Core.List.{List, [], _∷_}
-use mathlib.Core.Path.{_≡_, refl, sym, _∙_, ap, ap₂, subst}
+use mathlib.Core.Path.{_≡_, refl, sym, _∙_, ap, ap₂}
 use Rattle.std.specs.declared.option.Option.{Option}
 use Rattle.std.specs.declared.option.Option.the-variants.{Some, None}
 use Rattle.std.proofs.shelf.Ways.{tells}
-use Rattle.semantics.specs.Times.{Fraction, fraction, Proper, HighEnd, Closed, Open, Absent, Window, Order, StepFirst, WordFirst, at-most, before, same-time, plus, over, past-low, under-high, inside, counts, itself, whole}
+use Rattle.semantics.specs.Times.{Fraction, fraction, HighEnd, Closed, Open, Absent, Window, Order, StepFirst, WordFirst, at-most, before, same-time, plus, over, past-low, under-high, inside, counts, itself, whole}
 use Rattle.semantics.specs.Trees.{Edge, Phase, lifetime-of, edges-of, Transition, Location}
 use Rattle.semantics.specs.Scales.{ticks}
 use Rattle.semantics.specs.Fits.{word-fits, label-fits, edge-fits, transition-fits, within-bound, first}

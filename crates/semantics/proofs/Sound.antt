@@ -1,10 +1,10 @@
 -- The meanings of lawful nets are sound, and gearing keeps soundness.
-use Prim.Native.Nat.{ℕ, zero, suc, _+_, _*_, _/_, _%_, _<_, _≤_, _∣_}
-use native.Mathlib.Nat.{div-le-self, mul-le-mul-right, mul-le-mul-left, mul-add-div, mul-add-mod-self-left, div-add-mod, mod-eq-of-lt, div-eq-of-lt, mul-div-cancel', one-le-mul, le-div-iff-mul-le, zero-mul}
+use Prim.Native.Nat.{ℕ, zero, suc, _+_, _*_, _/_, _<_, _≤_, _∣_}
+use native.Mathlib.Nat.{div-le-self, mul-le-mul-right, mul-add-div, mul-add-mod-self-left, div-add-mod, mod-eq-of-lt, div-eq-of-lt, mul-div-cancel', one-le-mul, le-div-iff-mul-le, zero-mul}
 use native.Mathlib.Omega.{arith}
 use lib.Dec.{eqb, ltb, leb}
-use lib.ListN.{length, getD, drop, length-map, length-drop}
-use mathlib.Core.Bool.{Bool, true, false, cond, not, _&&_, _||_}
+use lib.ListN.{length, drop, length-map, length-drop}
+use mathlib.Core.Bool.{Bool, true, false, cond, _&&_}
 use mathlib.Core.List.{List, [], _∷_, _++_, map}
 use mathlib.Core.Logic.{_↔_, _⊎_, inl, inr}
 use mathlib.Core.Path.{_≡_, refl, sym, _∙_, ap, ap₂, subst}
@@ -16,14 +16,14 @@ use Rattle.std.proofs.shelf.Elements.{all-getD, all-map, all-weaker}
 use Rattle.std.proofs.shelf.Tests.{ltb-true, lt-ltb, leb-true, leb-false, le-leb, eqb-true, and-parts, and-left, or-cases}
 use Rattle.std.proofs.shelf.Ways.{tells}
 use Rattle.semantics.specs.Times.{Fraction, fraction, Order}
-use Rattle.semantics.specs.Trees.{Word, Edge, Phase, endless, lasting, lifetime-of, words-of, edges-of, next-of, phase-at, blank-phase, Station, ModelNet, Label, Silent, Hears, Sends, Transition, Location, location-at, blank-location, Automaton, AutomatonNet}
+use Rattle.semantics.specs.Trees.{Word, Edge, Phase, endless, lasting, lifetime-of, words-of, edges-of, phase-at, blank-phase, Station, ModelNet, Label, Silent, Hears, Sends, Transition, Location, location-at, blank-location, Automaton, AutomatonNet}
 use Rattle.semantics.specs.Scales.{ticks, life-ticks, scale-of, phase-denominators}
-use Rattle.semantics.specs.Fits.{edge-fits, transition-fits, within-bound, first, label-fits}
-use Rattle.semantics.specs.Machine.{Move, Stance, StationMeaning, Meaning, SoundStance, SoundStation, Sound, gear, gear-stance, net-scale, factor, geared}
+use Rattle.semantics.specs.Fits.{transition-fits, within-bound, first, label-fits}
+use Rattle.semantics.specs.Machine.{Move, Stance, StationMeaning, Meaning, SoundStance, SoundStation, Sound, gear, gear-stance, net-scale, factor}
 use Rattle.semantics.specs.Questions.{parts-fit}
 use Rattle.semantics.specs.Meanings.{stance-number, phase-of, sent-of, move-with, first-move, quiet-stance, busy-stance, model-stance, model-known, station-meaning, label-move, move-among, location-stance, automaton-meaning, model-meaning, automata-meaning}
-use Rattle.semantics.specs.LawfulModels.{Lawful-edge, Lawful-phase, Lawful-station, LawfulModel, Next-here, Small-life}
-use Rattle.semantics.specs.LawfulAutomata.{is-move, Hears-only, Printed-move, Lawful-moves, Lawful-transition, Bound-fits, Lawful-location, Lawful-automaton, LawfulAutomata}
+use Rattle.semantics.specs.LawfulModels.{Lawful-edge, Lawful-phase, Lawful-station, LawfulModel, Small-life}
+use Rattle.semantics.specs.LawfulAutomata.{is-move, Hears-only, Lawful-moves, Lawful-transition, Bound-fits, Lawful-location, Lawful-automaton, LawfulAutomata}
 use Rattle.semantics.specs.Laws.{Stance-numbers, Meanings-are-sound, Gearing-keeps-sound}
 use Rattle.semantics.proofs.Options.{some-not-none, inner, true-not-false}
 use Rattle.semantics.proofs.Lcm.{least-common}

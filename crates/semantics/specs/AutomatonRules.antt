@@ -7,8 +7,8 @@ use mathlib.Core.Path.{_≡_}
 use Rattle.std.specs.shelf.Lists.{All}
 use Rattle.std.specs.declared.option.Option.{Option}
 use Rattle.std.specs.declared.option.Option.the-variants.{Some, None}
-use Rattle.semantics.specs.Times.{Fraction, same-time, plus, over, whole, zero-time, inside, Order}
-use Rattle.semantics.specs.Trees.{Word, Label, Silent, Hears, Sends, Transition, Location, location-at, Automaton, AutomatonNet, automaton-at}
+use Rattle.semantics.specs.Times.{Fraction, same-time, plus, over, whole, zero-time, inside}
+use Rattle.semantics.specs.Trees.{Word, Label, Silent, Hears, Sends, Transition, location-at, Automaton, AutomatonNet, automaton-at}
 use Rattle.semantics.specs.Scales.{automaton-scale}
 use Rattle.semantics.specs.Fits.{transition-fits, within-bound}
 use Rattle.semantics.specs.Events.{Event}

@@ -1,6 +1,6 @@
 -- Books as trees: the bytes of a book, read along its chains. Of a book that the check accepts every chain ends, every
 -- record is of the kind that it is read as, and every goal is in its chain.
-use Prim.Native.Nat.{ℕ, zero, suc}
+use Prim.Native.Nat.{ℕ, suc}
 use lib.Dec.{eqb}
 use lib.ListN.{drop}
 use mathlib.Core.Bool.{Bool, cond, _&&_}

@@ -2,7 +2,7 @@
 use Prim.Native.Nat.{ℕ, zero, suc, _+_, _*_, _^_}
 use lib.Dec.{ltb, eqb}
 use lib.ListN.{length}
-use mathlib.Core.Bool.{Bool, true, false, cond, _||_}
+use mathlib.Core.Bool.{Bool, cond, _||_}
 use mathlib.Core.List.{List, [], _∷_, map}
 use Rattle.std.specs.declared.option.Option.{Option}
 use Rattle.std.specs.declared.option.Option.the-variants.{Some, None}
@@ -17,7 +17,7 @@ use Rattle.semantics.specs.Times.{Order, StepFirst, WordFirst}
 use Rattle.semantics.specs.Trees.{Path}
 use Rattle.semantics.specs.Machine.{StationMeaning, Meaning, net-scale, factor, geared}
 use Rattle.semantics.specs.Events.{Event, event, Created}
-use Rattle.semantics.specs.Net.{StationState, Net, NetState, in-stance, state-at, stance-at, busy-at, due-at, past-at, Passed, deliver, act}
+use Rattle.semantics.specs.Net.{Net, NetState, in-stance, state-at, stance-at, busy-at, due-at, past-at, Passed, deliver, act}
 
 -- An answer is the list of events, or a refusal: its fault and its place.
 abbrev pub Answer : Type 0

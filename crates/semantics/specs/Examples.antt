@@ -6,14 +6,14 @@ use mathlib.Core.Path.{_≡_}
 use Rattle.std.specs.declared.option.Option.the-variants.{Some, None}
 use Rattle.std.specs.declared.result.Result.the-variants.{Ok, Err}
 use Rattle.book.specs.Refusals.{refused}
-use Rattle.book.specs.declared.refusal.Fault.the-variants.{Scale, Paths, Room, Parts, Due, Lifetime, Total}
+use Rattle.book.specs.declared.refusal.Fault.the-variants.{Scale, Room, Parts, Due, Lifetime, Total}
 use Rattle.semantics.specs.Times.{Fraction, fraction, HighEnd, Closed, Open, Absent, Window, Order, StepFirst, WordFirst}
-use Rattle.semantics.specs.Trees.{Edge, Phase, endless, lasting, Station, ModelNet}
-use Rattle.semantics.specs.Scales.{lcm-all, scale-of, model-scale, ticks}
+use Rattle.semantics.specs.Trees.{Edge, Phase, endless, lasting, ModelNet}
+use Rattle.semantics.specs.Scales.{scale-of, model-scale, ticks}
 use Rattle.semantics.specs.Events.{Event, event, Arrival, External, Output, Internal, Created}
 use Rattle.semantics.specs.Calls.{Answer, Call, wait, word, step, bad-paths}
-use Rattle.semantics.specs.Print.{print, hearing-guard}
-use Rattle.semantics.specs.Faithful.{model-made, automata-made}
+use Rattle.semantics.specs.Print.{hearing-guard}
+use Rattle.semantics.specs.Faithful.{model-made}
 use Rattle.semantics.specs.Relay.{relay, sends, path, on-model, on-print, told-by-model, told-by-print}
 
 abbrev pub window : {T : Type 0} → T → Bool → HighEnd T → Window T

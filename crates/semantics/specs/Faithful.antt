@@ -1,5 +1,5 @@
 -- What it is for an automaton net to be faithful to a model net.
-use Prim.Native.Nat.{ℕ, zero, suc, pred, _*_, _/_, _<_}
+use Prim.Native.Nat.{ℕ, suc, pred, _*_, _/_, _<_}
 use lib.ListN.{length}
 use mathlib.Core.Bool.{true}
 use mathlib.Core.List.{List}
@@ -10,7 +10,7 @@ use Rattle.semantics.specs.Trees.{ModelNet, station-at, AutomatonNet, automato
 use Rattle.semantics.specs.Scales.{model-scale, automaton-scale, station-scale}
 use Rattle.semantics.specs.Meanings.{model-meaning, automata-meaning}
 use Rattle.semantics.specs.Events.{Event}
-use Rattle.semantics.specs.Net.{Net, NetState, state-at}
+use Rattle.semantics.specs.Net.{NetState, state-at}
 use Rattle.semantics.specs.Calls.{Made, make, Call, answers, left-by, telling}
 use Rattle.semantics.specs.Runs.{Act}
 use Rattle.semantics.specs.ModelRules.{ModelState, ModelRun}

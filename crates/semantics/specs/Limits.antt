@@ -1,6 +1,6 @@
 -- What both kinds of lawful net are asked: at most one that fits, and paths.
 -- A lawful net is one that the check of its book accepts; a comment names the fault that a breach is.
-use Prim.Native.Nat.{ℕ, _<_, _≤_}
+use Prim.Native.Nat.{ℕ, _≤_}
 use mathlib.Core.Bool.{Bool, true, false}
 use mathlib.Core.List.{List, [], _∷_}
 use mathlib.Core.Logic.{_≢_}

@@ -1,12 +1,12 @@
 -- What the two kinds of station mean as machines: a station of a model net, and a timed automaton.
 use Prim.Native.Nat.{ℕ, zero, suc, _+_, _*_, _/_, _%_}
 use lib.Dec.{ltb, eqb}
-use lib.ListN.{length, getD, drop}
+use lib.ListN.{length, drop}
 use mathlib.Core.Bool.{Bool, true, false, cond, _&&_, _||_}
 use mathlib.Core.List.{List, [], _∷_, map}
 use Rattle.std.specs.declared.option.Option.{Option}
 use Rattle.std.specs.declared.option.Option.the-variants.{Some, None}
-use Rattle.semantics.specs.Times.{Fraction, fraction, Order}
+use Rattle.semantics.specs.Times.{fraction, Order}
 use Rattle.semantics.specs.Trees.{Word, Phase, endless, lasting, lifetime-of, words-of, edges-of, next-of, phase-at, Station, ModelNet, Label, Silent, Hears, Sends, Transition, Location, location-at, Automaton, AutomatonNet}
 use Rattle.semantics.specs.Scales.{scale-of, life-ticks}
 use Rattle.semantics.specs.Fits.{edge-fits, transition-fits, within-bound, first}

@@ -1,9 +1,9 @@
 -- The rules of a model station: a phase, the words sent, and an age in seconds that is compared with the book's own
 -- fractions.
-use Prim.Native.Nat.{ℕ, zero, suc, _<_}
+use Prim.Native.Nat.{ℕ, suc, _<_}
 use lib.Dec.{ltb, eqb}
 use lib.ListN.{length, drop}
-use mathlib.Core.Bool.{Bool, true, false, not, _&&_}
+use mathlib.Core.Bool.{Bool, true, false, _&&_}
 use mathlib.Core.List.{List, [], _∷_}
 use mathlib.Core.Logic.{_⊎_}
 use mathlib.Core.Path.{_≡_}
@@ -11,7 +11,7 @@ use Rattle.std.specs.shelf.Lists.{All}
 use Rattle.std.specs.declared.option.Option.{Option}
 use Rattle.std.specs.declared.option.Option.the-variants.{Some, None}
 use Rattle.semantics.specs.Times.{Fraction, at-most, same-time, plus, over, zero-time, Order}
-use Rattle.semantics.specs.Trees.{Word, Edge, Phase, endless, lasting, lifetime-of, words-of, edges-of, phase-at, Station, ModelNet, station-at}
+use Rattle.semantics.specs.Trees.{Word, Phase, endless, lasting, lifetime-of, edges-of, phase-at, ModelNet, station-at}
 use Rattle.semantics.specs.Scales.{model-scale}
 use Rattle.semantics.specs.Fits.{edge-fits}
 use Rattle.semantics.specs.Events.{Event}

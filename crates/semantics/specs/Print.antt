@@ -2,13 +2,13 @@
 use Prim.Native.Nat.{ℕ, zero, suc, _+_}
 use lib.Dec.{leb, ltb}
 use lib.ListN.{length, drop}
-use mathlib.Core.Bool.{Bool, true, false, cond}
+use mathlib.Core.Bool.{true, false, cond}
 use mathlib.Core.List.{List, [], _∷_, _++_, map}
 use Rattle.std.specs.shelf.Lists.{joined}
 use Rattle.std.specs.declared.option.Option.{Option}
 use Rattle.std.specs.declared.option.Option.the-variants.{Some, None}
 use Rattle.semantics.specs.Times.{Fraction, HighEnd, Closed, Open, Absent, Window, Order, StepFirst, WordFirst}
-use Rattle.semantics.specs.Trees.{Word, Edge, Phase, endless, lasting, lifetime-of, words-of, edges-of, next-of, Station, ModelNet, Silent, Hears, Sends, Transition, Location, Automaton, AutomatonNet}
+use Rattle.semantics.specs.Trees.{Word, Edge, Phase, lifetime-of, words-of, edges-of, next-of, Station, ModelNet, Silent, Hears, Sends, Transition, Location, Automaton, AutomatonNet}
 use Rattle.semantics.specs.Scales.{ticks, life-ticks, scale-of}
 
 -- The window that counts, in ticks: its high end is cut open at the bound under step first, and closed under word first,

@@ -3,10 +3,10 @@
 use Prim.Native.Nat.{ℕ, zero, suc, _/_}
 use lib.Dec.{leb, ltb}
 use lib.ListN.{length}
-use mathlib.Core.Bool.{Bool, true, false, _&&_}
+use mathlib.Core.Bool.{Bool, false, _&&_}
 use Rattle.std.specs.Options.{whenTrue}
 use Rattle.std.specs.declared.option.Option.{Option}
-use Rattle.std.specs.declared.option.Option.the-variants.{Some, None}
+use Rattle.std.specs.declared.option.Option.the-variants.{None}
 use Rattle.semantics.specs.Machine.{Stance, StationMeaning, Meaning, meaning-at}
 
 -- what is asked of a station: its scale, its opening stance

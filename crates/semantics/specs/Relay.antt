@@ -1,15 +1,14 @@
 -- The relay, worked: its session on the model and on the print, and a run with fractional delays.
-use Prim.Native.Nat.{ℕ, zero, suc}
-use mathlib.Core.Bool.{Bool, true, false}
+use Prim.Native.Nat.{ℕ}
+use mathlib.Core.Bool.{false}
 use mathlib.Core.List.{List, [], _∷_, _++_}
 use mathlib.Core.Path.{_≡_}
 use Rattle.std.specs.shelf.Lists.{joined}
-use Rattle.std.specs.declared.option.Option.the-variants.{Some, None}
 use Rattle.std.specs.declared.result.Result.the-variants.{Ok, Err}
 use Rattle.book.specs.Refusals.{refused}
 use Rattle.book.specs.declared.refusal.Fault.the-variants.{Busy, Lifetime, Idle}
-use Rattle.semantics.specs.Times.{Fraction, fraction, Window, Closed, Absent, StepFirst, WordFirst}
-use Rattle.semantics.specs.Trees.{Word, Path, Edge, Phase, endless, lasting, Station, ModelNet}
+use Rattle.semantics.specs.Times.{fraction, Absent, StepFirst}
+use Rattle.semantics.specs.Trees.{Word, Path, endless, lasting, ModelNet}
 use Rattle.semantics.specs.Events.{Event, event, Arrival, External, Output, Internal, Created}
 use Rattle.semantics.specs.Calls.{Answer, Call, wait, word, step, answers, telling}
 use Rattle.semantics.specs.Print.{print}

@@ -1,10 +1,10 @@
 -- A printed net as the records of a book: for each station its automaton, then for each phase its location and the
 -- committed ones, the hearing transitions and the move of the first, and the committed ones' moves; paths last. Chains
 -- keep this order.
-use Prim.Native.Nat.{ℕ, zero, suc, _+_}
+use Prim.Native.Nat.{ℕ, suc, _+_}
 use lib.ListN.{length, getD}
-use mathlib.Core.List.{List, [], _∷_, _++_, map}
-use Rattle.std.specs.shelf.Lists.{joined, sumBy}
+use mathlib.Core.List.{List, [], _∷_, _++_}
+use Rattle.std.specs.shelf.Lists.{sumBy}
 use Rattle.book.specs.declared.term.BookKind.the-variants as kinds
 use Rattle.book.specs.declared.record.Head.{Head}
 use Rattle.book.specs.declared.record.Record.{Record}

@@ -7,8 +7,8 @@ use Rattle.std.specs.declared.option.Option.{Option}
 use Rattle.std.specs.declared.option.Option.the-variants.{Some, None}
 use Rattle.std.specs.Options.{mapped}
 use Rattle.std.specs.shelf.Lists.{joined}
-use Rattle.semantics.specs.Times.{Fraction, HighEnd, Closed, Open, Absent, Window}
-use Rattle.semantics.specs.Trees.{Edge, Phase, Station, ModelNet, Automaton, AutomatonNet, lifetime-of, edges-of}
+use Rattle.semantics.specs.Times.{Fraction, HighEnd, Closed, Open, Absent}
+use Rattle.semantics.specs.Trees.{Edge, Phase, Station, ModelNet, AutomatonNet, lifetime-of, edges-of}
 
 -- the first of a × k, a × (k + 1), .. that d divides, among n of them
 abbrev pub first-multiple : ℕ → ℕ → ℕ → ℕ → ℕ

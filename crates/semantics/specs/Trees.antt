@@ -1,7 +1,7 @@
 -- Nets as trees: a net of station models, and a net of timed automata.
 -- Within a station, goals, openings and next phases are places in its list, counted from 0.
 use Prim.Native.Nat.{ℕ}
-use mathlib.Core.Bool.{Bool, true, false}
+use mathlib.Core.Bool.{Bool, false}
 use mathlib.Core.List.{List, []}
 use lib.ListN.{getD}
 use Rattle.std.specs.declared.option.Option.{Option}

@@ -1,12 +1,12 @@
 use Prim.Native.Nat.{ℕ, _≤_}
 use native.Mathlib.Omega.{arith}
-use mathlib.Core.List.{List, [], _∷_}
+use mathlib.Core.List.{[]}
 use mathlib.Core.Path.{_≡_, refl, sym}
-use Rattle.semantics.specs.Times.{Fraction, fraction, Proper}
+use Rattle.semantics.specs.Times.{fraction}
 use Rattle.semantics.specs.Limits.{Lawful-path}
-use Rattle.semantics.specs.Scales.{model-scale, station-scale, automaton-scale}
-use Rattle.semantics.specs.LawfulModels.{Lawful-edge, Lawful-phase, Lawful-station, LawfulModel, model-records}
-use Rattle.semantics.specs.LawfulAutomata.{Lawful-transition, Printed-move, Lawful-location, Lawful-automaton, LawfulAutomata, automata-records}
+use Rattle.semantics.specs.Scales.{model-scale, automaton-scale}
+use Rattle.semantics.specs.LawfulModels.{LawfulModel, model-records}
+use Rattle.semantics.specs.LawfulAutomata.{LawfulAutomata, automata-records}
 use Rattle.semantics.specs.Print.{print}
 use Rattle.semantics.specs.Relay.{relay, path}
 use Rattle.semantics.proofs.Options.{true-not-false}

@@ -2,8 +2,7 @@ use Prim.Native.Nat.{ℕ, zero, suc, _<_}
 use native.Mathlib.Omega.{arith}
 use mathlib.Core.Logic.{inl}
 use mathlib.Core.Path.{refl}
-use mathlib.Core.List.{[], _∷_}
-use Rattle.std.specs.declared.option.Option.the-variants.{Some, None}
+use Rattle.std.specs.declared.option.Option.the-variants.{Some}
 use Rattle.semantics.specs.Runs.{lowest-busy, lowest-due, done, elsewhere, outside, heard, one-word, ended, goes-on, delayed, worded, stepped}
 use Rattle.semantics.proofs.relay_runs.Needs as need
 
