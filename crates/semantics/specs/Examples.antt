@@ -12,8 +12,8 @@ use Rattle.semantics.specs.Trees.{Edge, Phase, endless, lasting, ModelNet}
 use Rattle.semantics.specs.Scales.{scale-of, model-scale, ticks}
 use Rattle.semantics.specs.Events.{Event, event, Arrival, External, Output, Internal, Created}
 use Rattle.semantics.specs.Calls.{Answer, Call, wait, word, step, bad-paths}
-use Rattle.semantics.specs.Print.{hearing-guard}
-use Rattle.semantics.specs.Faithful.{model-made}
+use Rattle.semantics.specs.Print.{print, hearing-guard}
+use Rattle.semantics.specs.Faithful.{model-made, automata-made}
 use Rattle.semantics.specs.Relay.{relay, sends, path, on-model, on-print, told-by-model, told-by-print}
 
 abbrev pub window : {T : Type 0} → T → Bool → HighEnd T → Window T
@@ -62,6 +62,44 @@ pair-step phase = event Output 1 1 3 ∷ event Arrival 2 9 3 ∷ event External 
 abbrev pub pair-answers : List Answer
 pair-answers = Ok [] ∷ Ok (pair-step 2) ∷ Ok [] ∷ Ok (pair-step 1) ∷ Ok [] ∷ Ok (pair-step 2) ∷ Err (refused Lifetime 1) ∷ []
 
+-- A station that opens in its phase 2, which lasts 3 s and hears on port 1, from 1 s to 5 s, into phase 1.
+abbrev pub listener : Order → ModelNet
+listener o = record {
+  order = o;
+  stations = record { opening = 1; phases = endless [] ∷ lasting (fraction 3 1) [] 0 (edge 0 1 0 9 one-to-five ∷ []) ∷ [] } ∷ [];
+  paths = path 0 1 1 1 ∷ [];
+}
+
+-- a word after so many parts, 2 to a second
+abbrev pub after : ℕ → List Call
+after parts = wait parts ∷ word 1 4 4 ∷ []
+
+abbrev pub arrives : Answer
+arrives = Ok (event Arrival 1 1 4 ∷ [])
+
+abbrev pub is-heard : Answer
+is-heard = Ok (event Arrival 1 1 4 ∷ event External 1 0 1 ∷ [])
+
+-- Station 2 sends 7 and 8 every second; station 1 hears a word into a phase that lasts 0 s.
+abbrev pub hurry : ModelNet
+hurry = record {
+  order = StepFirst;
+  stations =
+      record { opening = 0; phases = endless (edge 1 1 0 9 (window (fraction 0 1) false Absent) ∷ []) ∷ lasting (fraction 0 1) [] 0 [] ∷ [] }
+      ∷ record { opening = 0; phases = lasting (fraction 1 1) (sends 1 7 ∷ sends 1 8 ∷ []) 0 [] ∷ [] }
+      ∷ [];
+  paths = path 2 1 1 1 ∷ [];
+}
+
+-- the busy station goes before the one that is due
+abbrev pub hurry-answers : List Answer
+hurry-answers =
+    Ok []
+    ∷ Ok (event Output 2 1 7 ∷ event Arrival 1 1 7 ∷ event External 1 0 2 ∷ [])
+    ∷ Ok (event Output 2 1 8 ∷ event Arrival 1 1 8 ∷ event Internal 2 0 1 ∷ [])
+    ∷ Ok (event Internal 1 0 1 ∷ [])
+    ∷ []
+
 pub record Examples-work : Type 0 where
   -- denominators 4 and 6 give scale 12, and 5/6 is 10 ticks
   pub scale-12 : scale-of (lifetimes (4 ∷ 6 ∷ [])) ≡ 12
@@ -83,6 +121,16 @@ pub record Examples-work : Type 0 where
   -- a due station keeps words out under step first, and not under word first
   pub due-first : on-model (pair StepFirst) 2 (wait 6 ∷ word 1 1 4 ∷ []) ≡ Ok [] ∷ Err (refused Due 1) ∷ []
   pub word-comes : on-print (pair WordFirst) 2 (wait 6 ∷ word 1 1 4 ∷ []) ≡ Ok [] ∷ Ok [] ∷ []
+  -- a word is heard from the low end on, between whole ticks too, and at the end as the order says
+  pub opens-in-2 : automata-made (print (listener StepFirst)) 2 1 .answer ≡ Ok (event Created 1 0 2 ∷ [])
+  pub too-early : (on-model (listener StepFirst) 2 (after 1) ≡ Ok [] ∷ arrives ∷ []) × (on-print (listener StepFirst) 2 (after 1) ≡ Ok [] ∷ arrives ∷ [])
+  pub from-low-end : (on-model (listener StepFirst) 2 (after 2) ≡ Ok [] ∷ is-heard ∷ []) × (on-print (listener StepFirst) 2 (after 2) ≡ Ok [] ∷ is-heard ∷ [])
+  pub between-ticks : (on-model (listener StepFirst) 2 (after 5) ≡ Ok [] ∷ is-heard ∷ []) × (on-print (listener StepFirst) 2 (after 5) ≡ Ok [] ∷ is-heard ∷ [])
+  pub at-end-step-first : (on-model (listener StepFirst) 2 (after 6) ≡ Ok [] ∷ Err (refused Due 1) ∷ []) × (on-print (listener StepFirst) 2 (after 6) ≡ Ok [] ∷ Err (refused Due 1) ∷ [])
+  pub at-end-word-first : (on-model (listener WordFirst) 2 (after 6) ≡ Ok [] ∷ is-heard ∷ []) × (on-print (listener WordFirst) 2 (after 6) ≡ Ok [] ∷ is-heard ∷ [])
+  -- a busy station before one that is due
+  pub hurry-on-model : on-model hurry 1 (wait 1 ∷ step 4 ∷ step 4 ∷ step 4 ∷ []) ≡ hurry-answers
+  pub hurry-on-print : on-print hurry 1 (wait 1 ∷ step 4 ∷ step 4 ∷ step 4 ∷ []) ≡ hurry-answers
   -- refusals of a making, and of a call without room
   pub no-parts : model-made relay 0 1 .answer ≡ Err (refused Parts 0)
   pub no-room : model-made (pair StepFirst) 2 1 .answer ≡ Err (refused Room 0)
