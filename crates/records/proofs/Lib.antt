@@ -6,3 +6,4 @@ pub mod ReadsBack
 pub mod Spelled
 pub mod WritesBack
 pub mod Written
+pub mod BooksBack

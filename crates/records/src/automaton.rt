@@ -154,39 +154,11 @@ fn automaton_row(next: u16, automaton: Automaton) -> [u8; 32]
     let [l0, l1] = automaton.first_location.to_be_bytes();
     let [o0, o1] = automaton.opening.to_be_bytes();
     let [s0, s1, s2, s3] = automaton.scale.to_be_bytes();
-    [
-        1,
-        0,
-        n0,
-        n1,
-        l0,
-        l1,
-        o0,
-        o1,
-        s0,
-        s1,
-        s2,
-        s3,
-        0,
-        0,
-        0,
-        0,
-        0,
-        0,
-        0,
-        0,
-        0,
-        0,
-        0,
-        0,
-        0,
-        0,
-        0,
-        0,
-        0,
-        0,
-        0,
-        0,
+    row![
+        1, 0, n0, n1, l0, l1, o0, o1;
+        s0, s1, s2, s3, 0, 0, 0, 0;
+        0, 0, 0, 0, 0, 0, 0, 0;
+        0, 0, 0, 0, 0, 0, 0, 0
     ]
 }
 
@@ -221,39 +193,11 @@ fn location_row(next: u16, location: Location) -> [u8; 32]
     let [t0, t1] = location.first_transition.to_be_bytes();
     let [p0, p1] = location.phase.to_be_bytes();
     let [b0, b1, b2, b3, b4, b5, b6, b7] = ticks_of(location.bound).to_be_bytes();
-    [
-        2,
-        marks,
-        n0,
-        n1,
-        t0,
-        t1,
-        p0,
-        p1,
-        location.sent,
-        0,
-        0,
-        0,
-        b0,
-        b1,
-        b2,
-        b3,
-        b4,
-        b5,
-        b6,
-        b7,
-        0,
-        0,
-        0,
-        0,
-        0,
-        0,
-        0,
-        0,
-        0,
-        0,
-        0,
-        0,
+    row![
+        2, marks, n0, n1, t0, t1, p0, p1;
+        location.sent, 0, 0, 0, b0, b1, b2, b3;
+        b4, b5, b6, b7, 0, 0, 0, 0;
+        0, 0, 0, 0, 0, 0, 0, 0
     ]
 }
 
@@ -282,39 +226,11 @@ fn transition_row(next: u16, transition: Transition) -> [u8; 32]
     let (label, port, low, high) = label_row(transition.label);
     let [a0, a1, a2, a3, a4, a5, a6, a7] = transition.guard.low.to_be_bytes();
     let [b0, b1, b2, b3, b4, b5, b6, b7] = high_or(0, transition.guard.high).to_be_bytes();
-    [
-        3,
-        marks,
-        n0,
-        n1,
-        g0,
-        g1,
-        label,
-        port,
-        low,
-        high,
-        resets,
-        0,
-        a0,
-        a1,
-        a2,
-        a3,
-        a4,
-        a5,
-        a6,
-        a7,
-        b0,
-        b1,
-        b2,
-        b3,
-        b4,
-        b5,
-        b6,
-        b7,
-        0,
-        0,
-        0,
-        0,
+    row![
+        3, marks, n0, n1, g0, g1, label, port;
+        low, high, resets, 0, a0, a1, a2, a3;
+        a4, a5, a6, a7, b0, b1, b2, b3;
+        b4, b5, b6, b7, 0, 0, 0, 0
     ]
 }
 

@@ -21,39 +21,11 @@ fn head_row(kind: BookKind, n: u16, head: Head) -> [u8; 32]
     let [n0, n1] = n.to_be_bytes();
     let [s0, s1] = head.first_station.to_be_bytes();
     let [p0, p1] = head.first_path.to_be_bytes();
-    [
-        kind.byte(),
-        1,
-        n0,
-        n1,
-        head.order.byte(),
-        0,
-        s0,
-        s1,
-        p0,
-        p1,
-        0,
-        0,
-        0,
-        0,
-        0,
-        0,
-        0,
-        0,
-        0,
-        0,
-        0,
-        0,
-        0,
-        0,
-        0,
-        0,
-        0,
-        0,
-        0,
-        0,
-        0,
-        0,
+    row![
+        kind.byte(), 1, n0, n1, head.order.byte(), 0, s0, s1;
+        p0, p1, 0, 0, 0, 0, 0, 0;
+        0, 0, 0, 0, 0, 0, 0, 0;
+        0, 0, 0, 0, 0, 0, 0, 0
     ]
 }
 

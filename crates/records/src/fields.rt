@@ -80,38 +80,10 @@ pub fn path_row(next: u16, path: Path) -> [u8; 32]
     ensures { λ r. ⌜ r ≡ row-bytes kinds.Path 0 next (path-rest path) ⌝ }
 {
     let [n0, n1] = next.to_be_bytes();
-    [
-        5,
-        0,
-        n0,
-        n1,
-        path.sender,
-        path.sender_port,
-        path.hearer,
-        path.hearer_port,
-        0,
-        0,
-        0,
-        0,
-        0,
-        0,
-        0,
-        0,
-        0,
-        0,
-        0,
-        0,
-        0,
-        0,
-        0,
-        0,
-        0,
-        0,
-        0,
-        0,
-        0,
-        0,
-        0,
-        0,
+    row![
+        5, 0, n0, n1, path.sender, path.sender_port, path.hearer, path.hearer_port;
+        0, 0, 0, 0, 0, 0, 0, 0;
+        0, 0, 0, 0, 0, 0, 0, 0;
+        0, 0, 0, 0, 0, 0, 0, 0
     ]
 }

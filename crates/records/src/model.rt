@@ -130,39 +130,11 @@ fn station_row(next: u16, station: Station) -> [u8; 32]
     let [n0, n1] = next.to_be_bytes();
     let [p0, p1] = station.first_phase.to_be_bytes();
     let [o0, o1] = station.opening.to_be_bytes();
-    [
-        1,
-        0,
-        n0,
-        n1,
-        p0,
-        p1,
-        o0,
-        o1,
-        0,
-        0,
-        0,
-        0,
-        0,
-        0,
-        0,
-        0,
-        0,
-        0,
-        0,
-        0,
-        0,
-        0,
-        0,
-        0,
-        0,
-        0,
-        0,
-        0,
-        0,
-        0,
-        0,
-        0,
+    row![
+        1, 0, n0, n1, p0, p1, o0, o1;
+        0, 0, 0, 0, 0, 0, 0, 0;
+        0, 0, 0, 0, 0, 0, 0, 0;
+        0, 0, 0, 0, 0, 0, 0, 0
     ]
 }
 
@@ -175,39 +147,11 @@ fn phase_row(next: u16, phase: Phase) -> [u8; 32]
     let [w0, w1] = phase.first_word.to_be_bytes();
     let [u0, u1, u2, u3] = phase.lifetime.numerator.to_be_bytes();
     let [d0, d1, d2, d3] = phase.lifetime.denominator.to_be_bytes();
-    [
-        2,
-        0,
-        n0,
-        n1,
-        e0,
-        e1,
-        p0,
-        p1,
-        w0,
-        w1,
-        0,
-        0,
-        u0,
-        u1,
-        u2,
-        u3,
-        d0,
-        d1,
-        d2,
-        d3,
-        0,
-        0,
-        0,
-        0,
-        0,
-        0,
-        0,
-        0,
-        0,
-        0,
-        0,
-        0,
+    row![
+        2, 0, n0, n1, e0, e1, p0, p1;
+        w0, w1, 0, 0, u0, u1, u2, u3;
+        d0, d1, d2, d3, 0, 0, 0, 0;
+        0, 0, 0, 0, 0, 0, 0, 0
     ]
 }
 
@@ -227,39 +171,11 @@ fn edge_row(next: u16, edge: Edge) -> [u8; 32]
     let [c0, c1, c2, c3] = high.numerator.to_be_bytes();
     let [d0, d1, d2, d3] = high.denominator.to_be_bytes();
     let marks = marks_of(edge.window);
-    [
-        3,
-        marks,
-        n0,
-        n1,
-        g0,
-        g1,
-        edge.port,
-        edge.lowest,
-        edge.highest,
-        0,
-        0,
-        0,
-        a0,
-        a1,
-        a2,
-        a3,
-        b0,
-        b1,
-        b2,
-        b3,
-        c0,
-        c1,
-        c2,
-        c3,
-        d0,
-        d1,
-        d2,
-        d3,
-        0,
-        0,
-        0,
-        0,
+    row![
+        3, marks, n0, n1, g0, g1, edge.port, edge.lowest;
+        edge.highest, 0, 0, 0, a0, a1, a2, a3;
+        b0, b1, b2, b3, c0, c1, c2, c3;
+        d0, d1, d2, d3, 0, 0, 0, 0
     ]
 }
 
@@ -267,39 +183,11 @@ fn word_row(next: u16, word: Word) -> [u8; 32]
     ensures { λ r. ⌜ r ≡ encoded-model (record { next = next; body = ModelBody.Word word }) ⌝ }
 {
     let [n0, n1] = next.to_be_bytes();
-    [
-        4,
-        0,
-        n0,
-        n1,
-        word.port,
-        word.value,
-        0,
-        0,
-        0,
-        0,
-        0,
-        0,
-        0,
-        0,
-        0,
-        0,
-        0,
-        0,
-        0,
-        0,
-        0,
-        0,
-        0,
-        0,
-        0,
-        0,
-        0,
-        0,
-        0,
-        0,
-        0,
-        0,
+    row![
+        4, 0, n0, n1, word.port, word.value, 0, 0;
+        0, 0, 0, 0, 0, 0, 0, 0;
+        0, 0, 0, 0, 0, 0, 0, 0;
+        0, 0, 0, 0, 0, 0, 0, 0
     ]
 }
 

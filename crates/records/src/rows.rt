@@ -8,7 +8,7 @@ ghost use Rattle.book.specs.declared.term.BookKind.{BookKind};
 ghost use Rattle.book.specs.declared.record.Record.{Record};
 ghost use Rattle.records.specs.Model.{decoded-model, encoded-model};
 ghost use Rattle.records.specs.Automaton.{decoded-automaton, encoded-automaton};
-ghost use Rattle.records.specs.Returns.{Model-records-return, Automaton-records-return};
+ghost use Rattle.records.specs.Returns.{Model-records-return, Automaton-records-return, Model-books-return, Automaton-books-return};
 use book::record::Record;
 use book::term::BookKind;
 
@@ -36,16 +36,18 @@ pub trait Rows: Copy {
         ensures { λ r. ⌜ r ≡ encoded item ⌝ };
 }
 
-// Model records come back, written and read, and read and written.
-pub fn model_records_return() -> u8
-    ensures { λ _. ⌜ Model-records-return ⌝ }
+// Model records and books come back, written and read, and read and written.
+pub fn model_books_return() -> u8
+    ensures records { λ _. ⌜ Model-records-return ⌝ }
+    ensures books { λ _. ⌜ Model-books-return ⌝ }
 {
     0
 }
 
-// Automaton records come back, written and read, and read and written.
-pub fn automaton_records_return() -> u8
-    ensures { λ _. ⌜ Automaton-records-return ⌝ }
+// Automaton records and books come back, written and read, and read and written.
+pub fn automaton_books_return() -> u8
+    ensures records { λ _. ⌜ Automaton-records-return ⌝ }
+    ensures books { λ _. ⌜ Automaton-books-return ⌝ }
 {
     0
 }

@@ -1,0 +1,5 @@
+pub mod Counting
+pub mod Chains
+pub mod Members
+pub mod Meeting
+pub mod Closure

@@ -1,0 +1,5 @@
+// What the program says of a book, as text.
+
+pub mod account;
+pub mod listing;
+pub mod sentence;
