@@ -29,11 +29,6 @@ use Rattle.structure.proofs.Soundness.{passes-sound}
 no-ok : {A B : Type 0} {e : Refusal} {x : B} → _≡_ {A = Result B Refusal} (Err e) (Ok x) → A
 no-ok p = let z : _≡_ {A = ℕ} 0 1 = cc in absurd (omega arith)
 
--- a refusal of the structure is that of everything told
-pub then-refused : {A B C : Type 0} (r : Result A Refusal) (x : B) (y : C) (e : Refusal) → Err e ≡ then r (Ok x) → Err e ≡ then r (Ok y)
-then-refused (Ok k) x y e is = no-ok is
-then-refused (Err f) x y e is = let same : e ≡ f = cc is in ap (λ z. Err z) same
-
 -- a walk that has answered a number has listed the chain
 module _ (b : List ℕ) (first : ℕ) (slots : List ℕ) where
   abbrev all : List ℕ

@@ -7,7 +7,7 @@ ghost use lib.ListN.{length};
 ghost use Rattle.std.specs.Vec.{made};
 ghost use Rattle.book.specs.Bytes.{two};
 ghost use Rattle.links.specs.Walks.{walk-answer, walk-list, filled};
-ghost use Rattle.structure.specs.Heads.{head-of, order-of, path-at, paths-answer, paths-list};
+ghost use Rattle.structure.specs.Heads.{order-in, head-of, order-of, path-at, paths-answer, paths-list};
 use super::structure;
 use book::bytes::byte_at;
 use book::bytes::row_of;
@@ -24,13 +24,19 @@ use links::link::AutomatonLinked;
 use links::link::ModelLinked;
 use links::walk::walk;
 
+fn order_in(book: &[u8]) -> Order
+    ensures { λ r. ⌜ r ≡ order-in (now (book .entry)) ⌝ }
+{
+    Order::from_byte(byte_at(book, 4)).unwrap_or(Order::StepFirst)
+}
+
 // The order, the first station or automaton, and the first path.
 pub fn head(book: &[u8]) -> Result<Head, Refusal>
     ensures { λ r. ⌜ r ≡ head-of (now (book .entry)) ⌝ }
 {
     structure(book)?;
     Ok(Head {
-        order: Order::from_byte(byte_at(book, 4)).unwrap_or(Order::StepFirst),
+        order: order_in(book),
         first_station: two_at(book, 6),
         first_path: two_at(book, 8),
     })
@@ -40,7 +46,8 @@ pub fn head(book: &[u8]) -> Result<Head, Refusal>
 pub fn order(book: &[u8]) -> Result<Order, Refusal>
     ensures { λ r. ⌜ r ≡ order-of (now (book .entry)) ⌝ }
 {
-    Ok(head(book)?.order)
+    structure(book)?;
+    Ok(order_in(book))
 }
 
 // The numbers of the path records, in the order of their chain.
