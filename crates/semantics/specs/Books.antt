@@ -5,15 +5,14 @@ use lib.Dec.{eqb}
 use lib.ListN.{drop}
 use mathlib.Core.Bool.{Bool, cond, _&&_}
 use mathlib.Core.List.{List, [], _∷_, map}
-use Rattle.std.specs.Options.{valueOr}
 use Rattle.book.specs.Bytes.{at, two, row}
 use Rattle.book.specs.Chains.{chain-of}
-use Rattle.book.specs.Terms.{order-of-byte}
-use Rattle.records.specs.Fields.{path-in}
+-- the head's order, the path in a record, and the paths in the order of their chain
+pub use Rattle.records.specs.Heads.{order-in as read-order, path-at as read-path, paths-in as read-paths}
 use Rattle.records.specs.Model.{station-in, phase-in, edge-in, word-in}
 use Rattle.records.specs.Automaton.{automaton-in, location-in, transition-in}
-use Rattle.semantics.specs.Times.{Fraction, Order, StepFirst}
-use Rattle.semantics.specs.Trees.{Word, Edge, Phase, endless, lasting, Station, Path, ModelNet, Transition, Location, Automaton, AutomatonNet}
+use Rattle.semantics.specs.Times.{Fraction}
+use Rattle.semantics.specs.Trees.{Word, Edge, Phase, endless, lasting, Station, ModelNet, Transition, Location, Automaton, AutomatonNet}
 
 -- a record's marks, and its bytes from 4 on
 abbrev pub marks-of : List ℕ → ℕ → ℕ
@@ -53,16 +52,6 @@ read-station b k =
     let st = station-in (rest-of b k) in
     let phases = chain-of b (st .«first_phase») in
     record { opening = place-in phases (st .opening); phases = map (read-phase b phases) phases }
-
-abbrev pub read-path : List ℕ → ℕ → Path
-read-path b k = path-in (rest-of b k)
-
--- the head: 4 the order, 6–7 the first station or automaton, 8–9 the first path
-abbrev pub read-order : List ℕ → Order
-read-order b = valueOr (order-of-byte (at b 4)) StepFirst
-
-abbrev pub read-paths : List ℕ → List Path
-read-paths b = map (read-path b) (chain-of b (two b 8))
 
 -- the tree of a model book
 abbrev pub read-model : List ℕ → ModelNet
