@@ -8,8 +8,10 @@ mod tests {
     use book::record::Record;
     use book::record::RecordClone;
     use book::record::Word;
+    use book::refusal::Fault;
     use book::refusal::Refusal;
     use book::refusal::RefusalDebug;
+    use book::term::BookKind;
     use book::term::Order;
     use book::term::Path;
     use links::link::AutomatonLinked;
@@ -18,6 +20,9 @@ mod tests {
     use records::books::read;
     use records::books::write;
     use records::model::ModelRows;
+    use report::account::account;
+    use report::listing::listing;
+    use report::listing::refusal_text;
     use std::test::*;
     use structure::contents::order;
     use structure::contents::paths;
@@ -250,5 +255,42 @@ mod tests {
         check_eq(told(write(HEAD, &[WORD], &mut out)), (0, 64))?;
         let many = vec![in rt.alloc(); WORD; 1001]?;
         check_eq(told(write(HEAD, &many, &mut out)), (2, 0))
+    }
+
+    const SHOWN: &str = "head: model book, step first, 8 records, first station 1, first path 7\n\
+        1 station: next 0, first phase 2, opening 2\n\
+        2 phase: next 3, first edge 4, next phase 0, first word 0, endless\n\
+        3 phase: next 0, first edge 0, next phase 2, first word 5, lasts 3/2 s\n\
+        4 edge: next 0, goal 3, port 1, values 5 to 9, window [0/1, no end) s\n\
+        5 word: next 6, port 2, value 7\n\
+        6 word: next 0, port 2, value 8\n\
+        7 path: next 8, from outside port 1 to station 1 port 1\n\
+        8 path: next 0, from station 1 port 2 to outside port 4\n";
+
+    #[test]
+    fn texts_tell_the_relay(rt: LibcRuntime) -> Result<(), Fail> {
+        let heap = rt.alloc();
+        let shown = listing(heap, BookKind::Model, RELAY)?;
+        check_eq(shown.as_str(), SHOWN)?;
+        let told = account(heap, BookKind::Model, RELAY)?;
+        check_eq(
+            told.as_str(),
+            "model book, step first, 8 records\nstation 1 (record 1): 2 phases, 1 edge, 2 words\n2 paths\n",
+        )
+    }
+
+    #[test]
+    fn texts_tell_refusals(rt: LibcRuntime) -> Result<(), Fail> {
+        let heap = rt.alloc();
+        let book = damaged(&[(129, 6)]);
+        let refusal = Refusal {
+            fault: Fault::Layout,
+            place: 4,
+        };
+        let text = refusal_text(heap, &book, refusal)?;
+        check_eq(
+            text.as_str(),
+            "- 3 4\nrecord 4: a kind, mark, label, reset byte or zero byte is wrong\nrecord 4 holds bytes 03 06 00 00 00 03 01 05 09 00 00 00 00 00 00 00 00 00 00 01 00 00 00 00 00 00 00 00 00 00 00 00\n",
+        )
     }
 }
