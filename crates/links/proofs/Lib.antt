@@ -3,3 +3,4 @@ pub mod Chains
 pub mod Members
 pub mod Meeting
 pub mod Closure
+pub mod Listed

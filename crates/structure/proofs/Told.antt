@@ -20,26 +20,12 @@ use Rattle.book.specs.declared.term.BookKind.{BookKind}
 use Rattle.book.specs.declared.term.BookKind.the-variants.{Model, Automaton}
 use Rattle.book.specs.declared.term.Path.{Path}
 use Rattle.links.specs.Walks.{filled, short, walk-answer, walk-list}
+pub use Rattle.links.proofs.Listed.{no-ok, walk-listed}
 use Rattle.structure.specs.Faults.{told-records}
 use Rattle.structure.specs.Structure.{structure-of}
 use Rattle.structure.specs.Heads.{then, path-at, paths-in, few-slots, paths-answer, paths-list, listed-by}
 use Rattle.structure.proofs.Marking.{all-whole}
 use Rattle.structure.proofs.Soundness.{passes-sound}
-
-no-ok : {A B : Type 0} {e : Refusal} {x : B} → _≡_ {A = Result B Refusal} (Err e) (Ok x) → A
-no-ok p = let z : _≡_ {A = ℕ} 0 1 = cc in absurd (omega arith)
-
--- a walk that has answered a number has listed the chain
-module _ (b : List ℕ) (first : ℕ) (slots : List ℕ) where
-  abbrev all : List ℕ
-  all = chain-of b first
-
-  pub walk-listed : (count : ℕ) → Ok count ≡ walk-answer b first slots → (count ≡ length all) × (take count (walk-list b first slots) ≡ all)
-  walk-listed count e = go (short b slots) refl e
-    where
-      go : (t : Bool) → short b slots ≡ t → Ok count ≡ cond t (Err (refused Room 0)) (Ok (length all)) → (count ≡ length all) × (take count (cond t slots (filled all slots)) ≡ all)
-      go true _ f = no-ok (sym f)
-      go false _ f = let same : count ≡ length all = cc f in (same, take-at all (drop (length all) slots) count (sym same))
 
 -- the walk in a book whose structure is right has room in 2,000 slots
 pub walk-goes : (b : List ℕ) (kind : BookKind) (first : ℕ) (slots : List ℕ) (e : Refusal) → structure-of b ≡ Ok kind → 2000 ≤ length slots → Err e ≡ walk-answer b first slots → ⊥
