@@ -1,8 +1,8 @@
 -- What is told of a book whose structure is right.
-use mathlib.Core.Path.{_≡_, refl, sym, ap, subst, _∙_}
+use mathlib.Core.Path.{_≡_, refl, sym, ap, _∙_}
 use mathlib.Core.Bool.{Bool, true, false, cond}
-use mathlib.Core.List.{List, [], _∷_, _++_, map}
-use Prim.Native.Nat.{ℕ, _+_, _-_, _*_, _<_, _≤_}
+use mathlib.Core.List.{List, map}
+use Prim.Native.Nat.{ℕ, _-_, _<_, _≤_}
 use native.Mathlib.Omega.{arith}
 use lib.ListN.{length, take, drop}
 use lib.Dec.{ltb}
@@ -24,10 +24,8 @@ use Rattle.structure.specs.Faults.{told-records}
 use Rattle.structure.specs.Structure.{structure-of}
 use Rattle.structure.specs.Heads.{then, path-at, paths-in, few-slots, paths-answer, paths-list, listed-by}
 use Rattle.structure.proofs.Marking.{all-whole}
+use Rattle.structure.proofs.Stages.{no-error}
 use Rattle.structure.proofs.Soundness.{passes-sound}
-
-no-ok : {A B : Type 0} {e : Refusal} {x : B} → _≡_ {A = Result B Refusal} (Err e) (Ok x) → A
-no-ok p = let z : _≡_ {A = ℕ} 0 1 = cc in absurd (omega arith)
 
 -- a walk that has answered a number has listed the chain
 module _ (b : List ℕ) (first : ℕ) (slots : List ℕ) where
@@ -38,7 +36,7 @@ module _ (b : List ℕ) (first : ℕ) (slots : List ℕ) where
   walk-listed count e = go (short b slots) refl e
     where
       go : (t : Bool) → short b slots ≡ t → Ok count ≡ cond t (Err (refused Room 0)) (Ok (length all)) → (count ≡ length all) × (take count (cond t slots (filled all slots)) ≡ all)
-      go true _ f = no-ok (sym f)
+      go true _ f = no-error (sym f)
       go false _ f = let same : count ≡ length all = cc f in (same, take-at all (drop (length all) slots) count (sym same))
 
 -- the walk in a book whose structure is right has room in 2,000 slots
@@ -47,7 +45,7 @@ walk-goes b kind first slots e right room declined =
     let s = passes-sound b kind .0 right in
     let most : most-records kind ≤ 2000 = most-2000 kind in
     let long : short b slots ≡ false = le-ltb (length slots) (whole-records b) (omega (arith, all-whole b (told-records b) (s .whole), s .few-records)) in
-    no-ok (declined ∙ ap (λ t. cond t (Err (refused Room 0)) (Ok (length (chain-of b first)))) long)
+    no-error (declined ∙ ap (λ t. cond t (Err (refused Room 0)) (Ok (length (chain-of b first)))) long)
   where
     most-2000 : (kind : BookKind) → most-records kind ≤ 2000
     most-2000 Model = omega arith

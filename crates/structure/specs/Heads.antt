@@ -14,7 +14,6 @@ use Rattle.book.specs.Terms.{order-of-byte}
 use Rattle.book.specs.declared.record.Head.{Head}
 use Rattle.book.specs.declared.refusal.Fault.the-variants.{Room}
 use Rattle.book.specs.declared.refusal.Refusal.{Refusal}
-use Rattle.book.specs.declared.term.BookKind.{BookKind}
 use Rattle.book.specs.declared.term.Order.{Order}
 use Rattle.book.specs.declared.term.Order.the-variants.{StepFirst}
 use Rattle.book.specs.declared.term.Path.{Path}
