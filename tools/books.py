@@ -667,7 +667,7 @@ def one_more(chance: random.Random, bytes_: bytearray) -> None:
     """A copy of some record at the end, counted by the head."""
     start = some_record(chance, bytes_)
     bytes_ += bytes_[start:start + ROW]
-    put(bytes_, 2, number(len(bytes_) // ROW - 1, 2))
+    put(bytes_, 2, number(max(0, len(bytes_) // ROW - 1), 2))
 
 
 def row_again(chance: random.Random, bytes_: bytearray) -> None:
@@ -693,7 +693,7 @@ def some_book(chance: random.Random) -> bytes:
     start = chance.choice([some_model, some_automata, lambda _: relay(), lambda _: relay_automaton()])(chance)
     bytes_ = bytearray(start)
     for _ in range(chance.choice([0, 1, 1, 1, 2, 3])):
-        if bytes_:
+        if len(bytes_) >= 2 * ROW:
             chance.choice(DAMAGES)(chance, bytes_)
     return bytes(bytes_)
 

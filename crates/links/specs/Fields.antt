@@ -5,6 +5,7 @@ use Prim.Native.Nat.{ℕ}
 use lib.Dec.{eqb}
 use Rattle.book.specs.Bytes.{at, two, row}
 use Rattle.book.specs.Chains.{next-index}
+use Rattle.book.specs.Terms.{kind-byte}
 use Rattle.book.specs.declared.term.Kind.{Kind}
 use Rattle.book.specs.declared.term.Kind.the-variants.{Station, Phase, Edge, Word, Path}
 use Rattle.links.specs.declared.link.Link.{Link}
@@ -28,11 +29,11 @@ model-links r =
     let station = link next Station ∷ link (two r 4) Phase ∷ no-link ∷ [] in
     let phase = link next Phase ∷ link (two r 4) Edge ∷ link (two r 8) Word ∷ [] in
     let none = no-link ∷ no-link ∷ no-link ∷ [] in
-    let five = cond (eqb kind 5) (only-next next Path) none in
-    let four = cond (eqb kind 4) (only-next next Word) five in
-    let three = cond (eqb kind 3) (only-next next Edge) four in
-    let two = cond (eqb kind 2) phase three in
-    cond (eqb kind 1) station two
+    let five = cond (eqb kind (kind-byte Path)) (only-next next Path) none in
+    let four = cond (eqb kind (kind-byte Word)) (only-next next Word) five in
+    let three = cond (eqb kind (kind-byte Edge)) (only-next next Edge) four in
+    let two = cond (eqb kind (kind-byte Phase)) phase three in
+    cond (eqb kind (kind-byte Station)) station two
 
 -- the same of an automaton record: every record's next index, an automaton's first location, a
 -- location's first transition
@@ -43,10 +44,10 @@ automaton-links r =
     let automaton = link next Station ∷ link (two r 4) Phase ∷ no-link ∷ [] in
     let location = link next Phase ∷ link (two r 4) Edge ∷ no-link ∷ [] in
     let none = no-link ∷ no-link ∷ no-link ∷ [] in
-    let five = cond (eqb kind 5) (only-next next Path) none in
-    let three = cond (eqb kind 3) (only-next next Edge) five in
-    let two = cond (eqb kind 2) location three in
-    cond (eqb kind 1) automaton two
+    let five = cond (eqb kind (kind-byte Path)) (only-next next Path) none in
+    let three = cond (eqb kind (kind-byte Edge)) (only-next next Edge) five in
+    let two = cond (eqb kind (kind-byte Phase)) location three in
+    cond (eqb kind (kind-byte Station)) automaton two
 
 -- the head's: the first station or automaton, and the first path; its bytes 2 and 3 are no next index
 abbrev pub head-links : List ℕ → List Link

@@ -4,3 +4,4 @@ pub mod Automaton
 pub mod Books
 pub mod Fits
 pub mod Returns
+pub mod Heads

@@ -1,4 +1,8 @@
 // A book's records, one to a line, each with its fields by name.
+use super::account::head_line;
+use super::sentence::meaning;
+use book::bytes::byte_at;
+use book::bytes::row_of;
 use book::bytes::two_at;
 use book::record::AutomatonBody;
 use book::record::Edge;
@@ -12,7 +16,6 @@ use book::record::Transition;
 use book::record::Window;
 use book::refusal::Refusal;
 use book::term::BookKind;
-use book::term::Order;
 use book::term::Path;
 use records::automaton::AutomatonRows;
 use records::books::read;
@@ -208,4 +211,78 @@ fn automaton_text(heap: Global, next: u16, body: AutomatonBody) -> Result<String
             format!(heap, "path: next {next}, {text}")
         }
     }
+}
+
+// The bytes of a row, as pairs of hexadecimal digits.
+fn hex_text(heap: Global, row: &[u8]) -> Result<String, AllocError> {
+    let mut text = String::from_str(heap, "bytes")?;
+    for byte in row {
+        let pair = format!(heap, " {byte:02x}")?;
+        text.push_str(&pair)?;
+    }
+    Ok(text)
+}
+
+// What record k of a book of that kind holds: its kind and fields, or its bytes where the layout
+// does not hold.
+pub fn record_text(
+    heap: Global,
+    kind: BookKind,
+    book: &[u8],
+    k: u16,
+) -> Result<String, AllocError> {
+    match kind {
+        BookKind::Model => {
+            if let Ok(item) = read::<ModelBody>(book, k) {
+                return model_text(heap, item.next, item.body);
+            }
+        }
+        BookKind::Automaton => {
+            if let Ok(item) = read::<AutomatonBody>(book, k) {
+                return automaton_text(heap, item.next, item.body);
+            }
+        }
+    }
+    hex_text(heap, row_of(book, k))
+}
+
+// The head and every record that lies in the bytes, one to a line.
+pub fn listing(heap: Global, kind: BookKind, book: &[u8]) -> Result<String, AllocError> {
+    let station = two_at(book, 6);
+    let path = two_at(book, 8);
+    let head = head_line(heap, kind, book)?;
+    let mut text = format!(
+        heap,
+        "head: {head}, first station {station}, first path {path}\n"
+    )?;
+    let last = two_at(book, 2).min(kind.most_records());
+    for k in 0..last {
+        let number = k.saturating_add(1);
+        let record = record_text(heap, kind, book, number)?;
+        let line = format!(heap, "{number} {record}\n")?;
+        text.push_str(&line)?;
+    }
+    Ok(text)
+}
+
+// A refusal as a line of its number and place, and a sentence that says what it means and what the
+// record there holds.
+pub fn refusal_text(heap: Global, book: &[u8], refusal: Refusal) -> Result<String, AllocError> {
+    let number = refusal.fault.number();
+    let place = refusal.place;
+    let says = meaning(refusal.fault);
+    if place == 0 {
+        let size = book.len();
+        let head = hex_text(heap, row_of(book, 0))?;
+        return format!(
+            heap,
+            "- {number} {place}\nthe book: {says}\n{size} bytes; head: {head}\n"
+        );
+    }
+    let kind = BookKind::from_byte(byte_at(book, 0)).unwrap_or(BookKind::Model);
+    let record = record_text(heap, kind, book, u16::try_from(place).unwrap_or(0))?;
+    format!(
+        heap,
+        "- {number} {place}\nrecord {place}: {says}\nrecord {place} holds {record}\n"
+    )
 }

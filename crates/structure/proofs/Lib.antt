@@ -5,3 +5,4 @@ pub mod Stages
 pub mod Soundness
 pub mod Filling
 pub mod Told
+pub mod Rewriting

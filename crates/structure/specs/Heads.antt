@@ -1,23 +1,18 @@
 -- The head of a book and its paths.
 use mathlib.Core.Bool.{Bool, cond}
-use mathlib.Core.List.{List, map}
+use mathlib.Core.List.{List}
 use Prim.Native.Nat.{ℕ}
-use lib.ListN.{length, drop}
+use lib.ListN.{length}
 use lib.Dec.{ltb}
-use Rattle.std.specs.Options.{valueOr}
 use Rattle.std.specs.declared.result.Result.{Result}
 use Rattle.std.specs.declared.result.Result.the-variants.{Ok, Err}
-use Rattle.book.specs.Bytes.{at, two, row}
-use Rattle.book.specs.Chains.{chain-of}
 use Rattle.book.specs.Refusals.{refused}
-use Rattle.book.specs.Terms.{order-of-byte}
 use Rattle.book.specs.declared.record.Head.{Head}
 use Rattle.book.specs.declared.refusal.Fault.the-variants.{Room}
 use Rattle.book.specs.declared.refusal.Refusal.{Refusal}
 use Rattle.book.specs.declared.term.Order.{Order}
-use Rattle.book.specs.declared.term.Order.the-variants.{StepFirst}
 use Rattle.book.specs.declared.term.Path.{Path}
-use Rattle.records.specs.Fields.{path-in}
+pub use Rattle.records.specs.Heads.{order-in, head-in, path-at, paths-in}
 use Rattle.links.specs.Walks.{filled}
 use Rattle.structure.specs.Structure.{structure-of}
 
@@ -26,27 +21,11 @@ abbrev pub then : {A B : Type 0} → Result A Refusal → Result B Refusal → R
 then (Ok x) later = later
 then (Err e) later = Err e
 
--- the order in byte 4; a book whose structure is right has one
-abbrev pub order-in : List ℕ → Order
-order-in b = valueOr (order-of-byte (at b 4)) StepFirst
-
--- bytes 6 and 7 are the first station or automaton, 8 and 9 the first path
-abbrev pub head-in : List ℕ → Head
-head-in b = record { order = order-in b; «first_station» = two b 6; «first_path» = two b 8 }
-
 abbrev pub head-of : List ℕ → Result Head Refusal
 head-of b = then (structure-of b) (Ok (head-in b))
 
 abbrev pub order-of : List ℕ → Result Order Refusal
 order-of b = then (structure-of b) (Ok (order-in b))
-
--- the path in a record
-abbrev pub path-at : List ℕ → ℕ → Path
-path-at b k = path-in (drop 4 (row b k))
-
--- the paths of a book, in the order of their chain
-abbrev pub paths-in : List ℕ → List Path
-paths-in b = map (path-at b) (chain-of b (two b 8))
 
 abbrev pub few-slots : List ℕ → List Path → Bool
 few-slots b list = ltb (length list) (length (paths-in b))

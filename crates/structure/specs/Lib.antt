@@ -5,3 +5,4 @@ pub mod Tables
 pub mod Sound
 pub mod Heads
 pub mod Examples
+pub mod Rewritten

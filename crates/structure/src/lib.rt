@@ -5,6 +5,7 @@ ghost use lib.ListN.{length};
 ghost use Rattle.std.specs.Options.{isSome};
 ghost use Rattle.structure.specs.Examples.{Examples-stand};
 ghost use Rattle.structure.specs.Faults.{told-records, wrong-length, wrong-head};
+ghost use Rattle.structure.specs.Rewritten.{Sound-books-rewritten};
 ghost use Rattle.structure.specs.Search.{Search-finds-smallest};
 ghost use Rattle.structure.specs.Sound.{Passes-sound};
 ghost use Rattle.structure.specs.Structure.{structure-by, structure-of};
@@ -102,6 +103,13 @@ pub fn passes_sound() -> u8
 // The relay's book and some damaged copies of it, by evaluation of the definitions.
 pub fn examples_stand() -> u8
     ensures { λ _. ⌜ Examples-stand ⌝ }
+{
+    0
+}
+
+// A book that passes, read record by record and written again, has the same bytes.
+pub fn sound_books_rewritten() -> u8
+    ensures { λ _. ⌜ Sound-books-rewritten ⌝ }
 {
     0
 }
