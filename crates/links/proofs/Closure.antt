@@ -10,11 +10,11 @@ use lib.Dec.{eqb, ltb}
 use Rattle.std.specs.shelf.Lists.{All}
 use Rattle.std.proofs.shelf.Lists.{getD-append-left}
 use Rattle.std.proofs.shelf.Elements.{all-push, all-getD}
-use Rattle.std.proofs.shelf.Tests.{or-parts, or-cases, or-left, or-right, eqb-false, eq-eqb, ne-eqb, le-ltb, ltb-false, both-ways, cases-eq, cases-lt}
+use Rattle.std.proofs.shelf.Tests.{or-parts, or-cases, or-right, eqb-false, eq-eqb, ne-eqb, le-ltb, ltb-false, both-ways, cases-eq, cases-lt}
 use Rattle.links.specs.declared.link.Link.{Link}
 use Rattle.links.specs.Naming.{member, met, met-all, spread, reached}
 use Rattle.links.specs.Queues.{Apart}
-use Rattle.links.specs.Reached.{Names, Reached, head, named, Closed, Least-closed, Reach-is-least}
+use Rattle.links.specs.Reached.{Names, Reached, head, named, Closed, Reach-is-least}
 use Rattle.links.proofs.Members.{member-push, member-front, place, apart-push, apart-head, apart-few}
 use Rattle.links.proofs.Meeting.{spread-done, spread-more}
 

@@ -24,11 +24,7 @@ use Rattle.links.specs.Walks.{filled}
 use Rattle.links.specs.Reaches.{reached-in, reach-answer, reach-list, reach-marks}
 use Rattle.links.specs.Queues.{Apart, Queue, Grown}
 use Rattle.links.proofs.Counting.{one-less}
-use Rattle.links.proofs.Members.{member-push, apart-push, apart-room, apart-few, apart-head}
-
-or-none : (x : Bool) → (x || false) ≡ x
-or-none true = refl
-or-none false = refl
+use Rattle.links.proofs.Members.{or-none, member-push, apart-push, apart-room, apart-few, apart-head}
 
 -- what lies behind more slots is as it was, too
 pub drop-further : {X : Type 0} (m r : ℕ) (xs ys : List X) → m ≤ r → drop m xs ≡ drop m ys → drop r xs ≡ drop r ys

@@ -1,5 +1,5 @@
 -- Members of lists of numbers, and how many different numbers up to n there can be.
-use mathlib.Core.Path.{_≡_, refl, sym, ap, subst, _∙_}
+use mathlib.Core.Path.{_≡_, refl, sym, ap, _∙_}
 use mathlib.Core.Logic.{⊎-elim}
 use mathlib.Core.Bool.{Bool, true, false, cond, _||_}
 use mathlib.Core.List.{List, [], _∷_, _++_}
@@ -15,7 +15,7 @@ use Rattle.std.proofs.shelf.Tests.{or-parts, or-cases, or-left, or-right, eqb-t
 use Rattle.links.specs.Naming.{member}
 use Rattle.links.specs.Queues.{Distinct, Apart}
 
-or-none : (x : Bool) → (x || false) ≡ x
+pub or-none : (x : Bool) → (x || false) ≡ x
 or-none true = refl
 or-none false = refl
 
@@ -40,12 +40,6 @@ place x (y ∷ xs) e =
     (λ h. let p = place x xs h in (suc (p .0), omega (arith, p .1), p .2))
     (or-cases (eqb y x) (member x xs) e)
 
--- and what stands at a place is a member
-pub placed : (xs : List ℕ) (q : ℕ) → q < length xs → member (getD xs q 0) xs ≡ true
-placed [] q h = absurd (omega arith)
-placed (y ∷ xs) zero h = or-left (eqb y y) _ (eq-eqb y y refl)
-placed (y ∷ xs) (suc q) h = or-right (eqb y (getD xs q 0)) _ (placed xs q (omega arith))
-
 both : {P Q : ℕ → Type 0} (R : ℕ → Type 0) (xs : List ℕ) → ((x : ℕ) → P x → Q x → R x) → All P xs → All Q xs → All R xs
 both R [] f p q = tt
 both R (x ∷ xs) f p q = (f x (p .0) (q .0), both R xs f (p .1) (q .1))
@@ -53,13 +47,13 @@ both R (x ∷ xs) f p q = (f x (p .0) (q .0), both R xs f (p .1) (q .1))
 abbrev taken : ℕ → Bool
 taken v = eqb v 1
 
--- each of the different numbers takes a free seat of its own
-seats : (xs m : List ℕ) → Distinct xs → All (λ x. x < length m) xs → All (λ x. getD m x 0 ≡ 0) xs → length xs + countBy taken m ≤ length m
-seats [] m d low free = omega (arith, countBy-le-length taken m)
-seats (x ∷ xs) m d low free =
+-- each of the different numbers takes a free slot of its own
+slots-taken : (xs m : List ℕ) → Distinct xs → All (λ x. x < length m) xs → All (λ x. getD m x 0 ≡ 0) xs → length xs + countBy taken m ≤ length m
+slots-taken [] m d low free = omega (arith, countBy-le-length taken m)
+slots-taken (x ∷ xs) m d low free =
     let m′ : List ℕ = set m x 1 in
     let long : length m′ ≡ length m = length-set m x 1 in
-    let rest : length xs + countBy taken m′ ≤ length m′ = seats xs m′ (d .1)
+    let rest : length xs + countBy taken m′ ≤ length m′ = slots-taken xs m′ (d .1)
     (all-weaker (λ y. y < length m) (λ y. y < length m′) (λ y h. omega arith) xs (low .1))
     (both (λ y. getD m′ y 0 ≡ 0) xs (λ y ne z. getD-set-other m x y 1 0 ne ∙ z) (d .0) (free .1)) in
     let more : countBy taken m′ + cond {A = ℕ} (taken (getD m x 0)) 1 0 ≡ countBy taken m + 1 = sumBy-set (λ v. cond {A = ℕ} (taken v) 1 0) m x 1 0 (low .0) in
@@ -72,7 +66,7 @@ apart-few n xs a =
     let long : length m ≡ n + 1 = length-replicate (n + 1) 0 in
     let low = all-weaker (λ x. x < n + 1) (λ x. x < length m) (λ x h. omega arith) xs (a .low) in
     let free = all-weaker (λ x. x < n + 1) (λ x. getD m x 0 ≡ 0) (λ x h. getD-replicate (n + 1) x 0 0 h) xs (a .low) in
-    omega (arith, seats xs m (a .distinct) low free)
+    omega (arith, slots-taken xs m (a .distinct) low free)
 
 distinct-push : (xs : List ℕ) (y : ℕ) → Distinct xs → member y xs ≡ false → Distinct (xs ++ y ∷ [])
 distinct-push [] y d new = (tt, tt)

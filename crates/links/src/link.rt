@@ -1,6 +1,5 @@
 // Index fields, and the kinds of record that have them.
 ghost use mathlib.Core.Path.{_≡_};
-ghost use mathlib.Core.Bool.{Bool};
 ghost use mathlib.Core.List.{List};
 ghost use Prim.Native.Nat.{ℕ};
 ghost use Rattle.book.specs.Chains.{next-index};

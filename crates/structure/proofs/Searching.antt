@@ -1,5 +1,5 @@
 -- One turn of a search for the smallest number that fails a test, and what it finds.
-use mathlib.Core.Path.{_≡_, refl, sym, ap, _∙_}
+use mathlib.Core.Path.{_≡_, refl, ap, _∙_}
 use mathlib.Core.Logic.{⊎-elim}
 use mathlib.Core.Bool.{Bool, true, false, cond}
 use Prim.Native.Nat.{ℕ, zero, suc, _+_, _-_, _<_, _≤_}
@@ -8,7 +8,7 @@ use Rattle.std.specs.declared.option.Option.{Option}
 use Rattle.std.specs.declared.option.Option.the-variants.{Some, None}
 use Rattle.std.proofs.shelf.Tests.{cases-eq}
 use Rattle.links.proofs.Counting.{one-less}
-use Rattle.structure.specs.Search.{first-from, first-of, Smallest, Found-or-none, Search-finds-smallest}
+use Rattle.structure.specs.Search.{first-from, first-of, Found-or-none, Search-finds-smallest}
 
 module _ (bad : ℕ → Bool) (n i : ℕ) where
   search-more : i < n → first-from bad (n - i) i ≡ cond (bad i) (Some i) (first-from bad (n - (i + 1)) (i + 1))

@@ -1,29 +1,28 @@
 -- A book passes exactly if it is sound.
-use mathlib.Core.Path.{_≡_, refl, sym, ap, subst, _∙_}
+use mathlib.Core.Path.{_≡_, refl, sym, ap, _∙_}
 use mathlib.Core.Logic.{_⊎_, ⊎-elim, inl, inr}
-use mathlib.Core.Bool.{Bool, true, false, cond, not, _&&_, _||_}
+use mathlib.Core.Bool.{Bool, true, false, cond, not}
 use mathlib.Core.List.{List, [], _∷_}
-use Prim.Native.Nat.{ℕ, _+_, _*_, _≤_, _<_}
+use Prim.Native.Nat.{ℕ, _+_, _≤_}
 use native.Mathlib.Omega.{arith}
 use lib.ListN.{length}
 use lib.Dec.{eqb, ltb}
 use Rattle.std.specs.Options.{isSome}
 use Rattle.std.specs.shelf.Lists.{All}
-use Rattle.std.specs.declared.option.Option.{Option}
 use Rattle.std.specs.declared.option.Option.the-variants.{Some, None}
-use Rattle.std.proofs.shelf.Tests.{or-parts, or-from, or-cases, and-cases, and-left, and-right, not-true, not-false, not-from-true, not-from-false, eqb-true, eqb-false, eq-eqb, ne-eqb, ltb-false, le-ltb, both-ways, cases-eq}
+use Rattle.std.proofs.shelf.Tests.{or-parts, or-from, and-cases, and-left, and-right, not-false, not-from-true, not-from-false, eqb-true, eqb-false, eq-eqb, ne-eqb, ltb-false, le-ltb, both-ways, cases-eq}
 use Rattle.book.specs.Bytes.{at, row}
-use Rattle.book.specs.Terms.{book-byte, book-of-byte, most-records, order-byte, order-of-byte, kind-byte}
+use Rattle.book.specs.Terms.{book-byte, book-of-byte, most-records, order-byte, order-of-byte}
 use Rattle.book.specs.declared.term.BookKind.{BookKind}
 use Rattle.book.specs.declared.term.BookKind.the-variants.{Model, Automaton}
 use Rattle.book.specs.declared.term.Order.{Order}
 use Rattle.book.specs.declared.term.Order.the-variants.{StepFirst, WordFirst}
 use Rattle.links.specs.declared.link.Link.{Link}
-use Rattle.links.specs.Naming.{named-from, member, reached}
+use Rattle.links.specs.Naming.{named-from, reached}
 use Rattle.links.specs.Reached.{Reached}
 use Rattle.links.proofs.Closure.{reach-is-least}
-use Rattle.structure.specs.Faults.{told-records, wrong-length, wrong-head, head-laid, unlaid, wrong-link, some-link, ill-linked}
-use Rattle.structure.specs.Structure.{laid-in, links-in}
+use Rattle.structure.specs.Faults.{told-records, head-laid, unlaid, wrong-link, some-link, ill-linked}
+use Rattle.structure.specs.Structure.{laid-in}
 use Rattle.structure.specs.Sound.{links-at, Right, Sound, Passes-sound}
 use Rattle.structure.proofs.Stages.{Passed, passed, passes, none-fails, fails-none}
 

@@ -1,8 +1,8 @@
 -- The stages of the check: what has passed, and what is left to refuse.
 use mathlib.Core.Path.{_≡_, refl, sym, ap, subst, _∙_}
-use mathlib.Core.Bool.{Bool, true, false, cond}
+use mathlib.Core.Bool.{Bool, true, false}
 use mathlib.Core.List.{List}
-use Prim.Native.Nat.{ℕ, _+_, _*_, _≤_, _<_}
+use Prim.Native.Nat.{ℕ, _≤_}
 use native.Mathlib.Omega.{arith}
 use Rattle.std.specs.declared.option.Option.{Option}
 use Rattle.std.specs.declared.option.Option.the-variants.{Some, None}
@@ -20,7 +20,7 @@ use Rattle.structure.specs.Search.{first-of, Found-or-none}
 use Rattle.structure.specs.Structure.{unless, at-0, laid-in, links-in, first-unlaid, first-ill-linked, structure-by, structure-in, structure-of}
 use Rattle.structure.proofs.Searching.{search-finds-smallest}
 
-no-error : {A B : Type 0} {e : Refusal} {x : B} → _≡_ {A = Result B Refusal} (Err e) (Ok x) → A
+pub no-error : {A B : Type 0} {e : Refusal} {x : B} → _≡_ {A = Result B Refusal} (Err e) (Ok x) → A
 no-error p = let z : _≡_ {A = ℕ} 0 1 = cc in absurd (omega arith)
 
 no-place : {A : Type 0} {p : ℕ} → _≡_ {A = Option ℕ} (Some p) None → A

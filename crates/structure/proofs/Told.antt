@@ -1,8 +1,8 @@
 -- What is told of a book whose structure is right.
-use mathlib.Core.Path.{_≡_, refl, sym, ap, subst, _∙_}
+use mathlib.Core.Path.{_≡_, refl, sym, ap, _∙_}
 use mathlib.Core.Bool.{Bool, true, false, cond}
-use mathlib.Core.List.{List, [], _∷_, _++_, map}
-use Prim.Native.Nat.{ℕ, _+_, _-_, _*_, _<_, _≤_}
+use mathlib.Core.List.{List, map}
+use Prim.Native.Nat.{ℕ, _-_, _<_, _≤_}
 use native.Mathlib.Omega.{arith}
 use lib.ListN.{length, take, drop}
 use lib.Dec.{ltb}
@@ -20,11 +20,12 @@ use Rattle.book.specs.declared.term.BookKind.{BookKind}
 use Rattle.book.specs.declared.term.BookKind.the-variants.{Model, Automaton}
 use Rattle.book.specs.declared.term.Path.{Path}
 use Rattle.links.specs.Walks.{filled, short, walk-answer, walk-list}
-pub use Rattle.links.proofs.Listed.{no-ok, walk-listed}
+pub use Rattle.links.proofs.Listed.{walk-listed}
 use Rattle.structure.specs.Faults.{told-records}
 use Rattle.structure.specs.Structure.{structure-of}
 use Rattle.structure.specs.Heads.{then, path-at, paths-in, few-slots, paths-answer, paths-list, listed-by}
 use Rattle.structure.proofs.Marking.{all-whole}
+use Rattle.structure.proofs.Stages.{no-error}
 use Rattle.structure.proofs.Soundness.{passes-sound}
 
 -- the walk in a book whose structure is right has room in 2,000 slots
@@ -33,7 +34,7 @@ walk-goes b kind first slots e right room declined =
     let s = passes-sound b kind .0 right in
     let most : most-records kind ≤ 2000 = most-2000 kind in
     let long : short b slots ≡ false = le-ltb (length slots) (whole-records b) (omega (arith, all-whole b (told-records b) (s .whole), s .few-records)) in
-    no-ok (declined ∙ ap (λ t. cond t (Err (refused Room 0)) (Ok (length (chain-of b first)))) long)
+    no-error (declined ∙ ap (λ t. cond t (Err (refused Room 0)) (Ok (length (chain-of b first)))) long)
   where
     most-2000 : (kind : BookKind) → most-records kind ≤ 2000
     most-2000 Model = omega arith

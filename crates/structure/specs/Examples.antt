@@ -3,7 +3,6 @@ use mathlib.Core.Path.{_≡_}
 use mathlib.Core.List.{List, [], _∷_}
 use Prim.Native.Nat.{ℕ, zero, suc, _+_, _*_, _/_, _%_}
 use lib.ListN.{set, take}
-use Rattle.std.specs.declared.result.Result.{Result}
 use Rattle.std.specs.declared.result.Result.the-variants.{Ok, Err}
 use Rattle.book.specs.Chains.{chain-of}
 use Rattle.book.specs.Refusals.{refused}
@@ -74,10 +73,10 @@ pub record Examples-stand : Type 0 where
   pub kind-unknown : Refused (damaged relay 0 0 78) Head 0
   pub order-unknown : Refused (damaged relay 0 4 2) Head 0
   -- a byte without a meaning that is not zero: in the head, and in the second phase
-  pub head-stained : Refused (damaged relay 0 5 1) Layout 0
-  pub phase-stained : Refused (damaged relay 3 31 1) Layout 3
+  pub head-not-zero : Refused (damaged relay 0 5 1) Layout 0
+  pub phase-not-zero : Refused (damaged relay 3 31 1) Layout 3
   -- a word in an automaton book
-  pub word-misplaced : Refused (damaged waiting 2 0 4) Layout 2
+  pub word-in-automaton : Refused (damaged waiting 2 0 4) Layout 2
   -- the second word's next is the first: record 5 is named twice
   pub named-twice : Refused (damaged relay 6 3 5) Links 5
   -- the head does not name the first path: nothing does

@@ -1,5 +1,5 @@
 -- What is wrong with a book's length, its head, a record's layout, and a record's links.
-use mathlib.Core.Bool.{Bool, true, false, cond, not, _&&_, _||_}
+use mathlib.Core.Bool.{Bool, false, cond, not, _&&_, _||_}
 use mathlib.Core.List.{List, [], _∷_}
 use Prim.Native.Nat.{ℕ, _+_, _*_}
 use lib.ListN.{length}
@@ -52,5 +52,5 @@ some-link test (l ∷ ls) = test l || some-link test ls
 abbrev pub ill-linked : (ℕ → List Link) → List ℕ → ℕ → List ℕ → ℕ → Bool
 ill-linked links b n seen i =
     let wrong = some-link (wrong-link b n) (links i) in
-    let lost = not (eqb (named-from links i (n + 1) 0) 1) || not (member i seen) in
-    wrong || (not (eqb i 0) && lost)
+    let unlinked = not (eqb (named-from links i (n + 1) 0) 1) || not (member i seen) in
+    wrong || (not (eqb i 0) && unlinked)

@@ -10,7 +10,6 @@ use Rattle.book.specs.Refusals.{refused}
 use Rattle.book.specs.declared.record.Head.{Head}
 use Rattle.book.specs.declared.refusal.Fault.the-variants.{Room}
 use Rattle.book.specs.declared.refusal.Refusal.{Refusal}
-use Rattle.book.specs.declared.term.BookKind.{BookKind}
 use Rattle.book.specs.declared.term.Order.{Order}
 use Rattle.book.specs.declared.term.Path.{Path}
 pub use Rattle.records.specs.Heads.{order-in, head-in, path-at, paths-in}

@@ -33,7 +33,7 @@ smallest-append (x ∷ xs) ys = ap (least (Some x)) (smallest-append xs ys) ∙ 
 -- one more number of a list
 module _ (f : ℕ → ℕ → List ℕ) (ks : List ℕ) where
   pub visit-more : (i : ℕ) (best here best′ : Option ℕ) → i < length ks → here ≡ smallest (f i (getD ks i 0)) → best′ ≡ least best here
-    → least best′ (smallest (along f (i + 1) (drop (i + 1) ks))) ≡ least best (smallest (along f i (drop i ks)))
+      → least best′ (smallest (along f (i + 1) (drop (i + 1) ks))) ≡ least best (smallest (along f i (drop i ks)))
   visit-more i best here best′ h eh eb =
       let next : i + 1 ≡ suc i = omega arith in
       let rest = smallest (along f (i + 1) (drop (i + 1) ks)) in

@@ -1,10 +1,9 @@
-use mathlib.Core.Path.{sym, ap, subst, _∙_}
+use mathlib.Core.Path.{sym, ap, _∙_}
 use lib.ListN.{getD, take}
 use Rattle.std.proofs.shelf.Lists.{take-all}
 use Rattle.std.proofs.shelf.Sums.{folded-more}
 use Rattle.links.specs.Fields.{no-link}
 use Rattle.links.specs.Naming.{met, met-all}
-use Rattle.links.specs.Queues.{Grown}
 use Rattle.links.proofs.Meeting.{grown-same, grown-twice, grown-is}
 use Rattle.links.proofs.reach.meet_all.Needs as need
 
