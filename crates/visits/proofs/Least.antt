@@ -15,6 +15,7 @@ use Rattle.std.proofs.shelf.Elements.{has-getD, has-append-right, all-weaker}
 use Rattle.std.proofs.shelf.Tests.{leb-true, leb-false}
 use Rattle.std.proofs.shelf.Ways.{tells}
 use Rattle.visits.specs.Smallest.{least, smallest, along, Is-smallest, Smallest-is-smallest}
+use Rattle.visits.specs.Visits.{followed}
 
 pub least-none : (x : Option ℕ) → least x None ≡ x
 least-none None = refl
@@ -65,3 +66,7 @@ smallest-is-smallest (k ∷ ks) = with-first (smallest ks) (smallest-is-smallest
         go false e =
             let gt : m < k = leb-false k m e in
             (has-append-right (k ∷ []) ks m (found .0), (omega arith, found .1))
+
+-- what was found along the chain from an index that was read
+pub found-along : (b : List ℕ) (f : ℕ → ℕ → List ℕ) (first i : ℕ) (r : Option ℕ) → first ≡ i → r ≡ smallest (along f 0 (followed b first)) → r ≡ smallest (along f 0 (followed b i))
+found-along b f first i r e h = h ∙ ap (λ k. smallest (along f 0 (followed b k))) e
