@@ -1,0 +1,21 @@
+// What the tests of windows say of all moments.
+ghost use Rattle.semantics.specs.Times.{itself, whole};
+ghost use Rattle.spans.specs.Meaning.{Windows-count, Guards-count, Windows-mean};
+
+// The moments of a cut window are the written one's that count, and those of a cut guard the
+// written one's up to and with the bound.
+pub fn cuts_count() -> u8
+    ensures windows { λ _. ⌜ Windows-count ⌝ }
+    ensures guards { λ _. ⌜ Guards-count ⌝ }
+{
+    0
+}
+
+// Of windows in seconds and of guards in ticks: one is said to hold no time exactly if no moment
+// lies in it, and two to share a moment exactly if one lies in both.
+pub fn windows_mean() -> u8
+    ensures windows { λ _. ⌜ Windows-mean itself ⌝ }
+    ensures guards { λ _. ⌜ Windows-mean whole ⌝ }
+{
+    0
+}
