@@ -1,2 +1,3 @@
 mod Order
 pub mod Windows
+pub mod Taking
