@@ -4,7 +4,7 @@ use native.Mathlib.Nat.{dvd-refl, dvd-mul-left, dvd-mul-right, dvd-mod-iff, dvd-
 use native.Mathlib.Omega.{arith}
 use lib.Dec.{leb}
 use mathlib.Core.Bool.{Bool, true, false, cond}
-use mathlib.Core.List.{List, [], _∷_}
+use mathlib.Core.List.{List, [], _∷_, _++_}
 use mathlib.Core.Path.{_≡_, refl, sym, _∙_, ap, ap₂, subst}
 use Rattle.std.proofs.shelf.Tests.{leb-true}
 use Rattle.std.proofs.shelf.Ways.{tells}
@@ -101,9 +101,13 @@ grown-one s d = go (leb s 1000000) refl
         let more : s ≤ lcm s d = lcm-at-least s d (omega arith) in
         sym (over (lcm s d) (omega arith))
 
-pub grown-list : (s : ℕ) (ds : List ℕ) → grown-all (limited s) ds ≡ limited (lcm-all s ds)
+grown-list : (s : ℕ) (ds : List ℕ) → grown-all (limited s) ds ≡ limited (lcm-all s ds)
 grown-list s [] = refl
 grown-list s (d ∷ ds) = ap (λ x. grown-all x ds) (grown-one s d) ∙ grown-list (lcm s d) ds
+
+pub lcm-all-push : (a : ℕ) (ds : List ℕ) (d : ℕ) → lcm-all a (ds ++ (d ∷ [])) ≡ lcm (lcm-all a ds) d
+lcm-all-push a [] d = refl
+lcm-all-push a (e ∷ ds) d = lcm-all-push (lcm a e) ds d
 
 pub grows : Grows-as-a-whole
 grows = record { one = grown-one; all = grown-list }

@@ -1,9 +1,9 @@
 use mathlib.Core.Path.{_≡_}
-use lib.ListN.{drop}
+use lib.ListN.{take}
 use Rattle.semantics.specs.Scales.{lcm-all}
-use Rattle.scales.specs.Limited.{limited, grown-all}
+use Rattle.scales.specs.Limited.{limited}
 use Rattle.scales.proofs.scale.scale_of.Given as given
 
--- what is left gives the whole
+-- the scale of the denominators so far
 abbrev pub Inv-loop-denominator : given.InvT-loop-denominator
-Inv-loop-denominator l = grown-all (l .scale) (drop (l .denominator-index) (l .denominators)) ≡ limited (lcm-all 1 (l .denominators))
+Inv-loop-denominator l = l .scale ≡ limited (lcm-all 1 (take (l .denominator-index) (l .denominators)))
