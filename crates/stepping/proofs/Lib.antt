@@ -1,0 +1,6 @@
+pub mod Simulation
+pub mod Firsts
+pub mod Whole
+pub mod Allowed
+pub mod Obeyed
+pub mod Bridge

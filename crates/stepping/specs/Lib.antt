@@ -1,0 +1,4 @@
+pub mod StationRules
+pub mod Obeys
+pub mod ModelNets
+pub mod AutomatonNets
