@@ -4,3 +4,7 @@ pub mod Whole
 pub mod Allowed
 pub mod Obeyed
 pub mod Bridge
+pub mod Scaled
+pub mod ModelSuits
+pub mod Geared
+pub mod ModelSteps
