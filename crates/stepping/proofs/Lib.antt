@@ -8,3 +8,5 @@ pub mod Scaled
 pub mod ModelSuits
 pub mod Geared
 pub mod ModelSteps
+pub mod AutomatonSuits
+pub mod AutomatonSteps
