@@ -99,8 +99,8 @@ module _ (ms : Meaning) (q : ℕ) (o : Order) (paths : List Path) where
         go : (b : Bool) → leaves p from port ≡ b →
             ((τ : List StationState) → length τ ≡ n → Delivered rules n o paths from port v ps (state-at τ) (deliver ms q ps from port v τ .news) (state-at (deliver ms q ps from port v τ .stations))) →
             Delivered rules n o paths from port v (p ∷ ps) (state-at σ)
-              (cond b (and-then (arrive ms q σ (p .hearer) (p .«hearer_port») v) (deliver ms q ps from port v)) (deliver ms q ps from port v σ) .news)
-              (state-at (cond b (and-then (arrive ms q σ (p .hearer) (p .«hearer_port») v) (deliver ms q ps from port v)) (deliver ms q ps from port v σ) .stations))
+            (cond b (and-then (arrive ms q σ (p .hearer) (p .«hearer_port») v) (deliver ms q ps from port v)) (deliver ms q ps from port v σ) .news)
+            (state-at (cond b (and-then (arrive ms q σ (p .hearer) (p .«hearer_port») v) (deliver ms q ps from port v)) (deliver ms q ps from port v σ) .stations))
         go true e rec = hand-over p ps from port v σ long (fine .0) e (p .hearer) refl _ _ (rec (arrive ms q σ (p .hearer) (p .«hearer_port») v .stations) (arrive-long ms q σ (p .hearer) (p .«hearer_port») v ∙ long))
         go false e rec = elsewhere e (rec σ long)
 
@@ -133,13 +133,13 @@ module _ (ms : Meaning) (q : ℕ) (o : Order) (paths : List Path) where
           let whole : parts-in (fraction d q) q ≡ d = mul-div-cancel d some in
           let kept : answer-call net paths (wait d) s .state ≡ waited net d s = simp (a .0, b .0, c .0) in
           let may : (i : ℕ) → i < n → rules i .may-wait (fraction d q) (state-at (s .stations) i) ≡ true = λ i l.
-            subst (λ k. within-bound (stance-at ms (s .stations) i .lifetime) (fraction (state-at (s .stations) i .elapsed + k) q) ≡ true) (sym whole)
-            (not-past (stance-at ms (s .stations) i .lifetime) (state-at (s .stations) i .elapsed + d) (all-fail (past-at ms q (s .stations) d) 0 n (number-none _ (b .0)) i (omega arith) (omega arith))) in
+          subst (λ k. within-bound (stance-at ms (s .stations) i .lifetime) (fraction (state-at (s .stations) i .elapsed + k) q) ≡ true) (sym whole)
+          (not-past (stance-at ms (s .stations) i .lifetime) (state-at (s .stations) i .elapsed + d) (all-fail (past-at ms q (s .stations) d) 0 n (number-none _ (b .0)) i (omega arith) (omega arith))) in
           record {
             end = λ i. rules i .later (fraction d q) (state-at (s .stations) i);
             does = subst (λ es. Does rules n o paths (state-at (s .stations)) (delay (fraction d q)) es (λ i. rules i .later (fraction d q) (state-at (s .stations) i))) empty (delayed some quiet may);
             shown = λ i l.
-              sym (ap (λ z. state-at (z .stations) i) kept ∙ wait-at d (s .stations) i (omega arith) ∙ ap (λ k. in-stance (state-at (s .stations) i .stance) (state-at (s .stations) i .elapsed + k)) (sym whole));
+                sym (ap (λ z. state-at (z .stations) i) kept ∙ wait-at d (s .stations) i (omega arith) ∙ ap (λ k. in-stance (state-at (s .stations) i .stance) (state-at (s .stations) i .elapsed + k)) (sym whole));
           }
 
       does-word : (port v slots : ℕ) (s : NetState) (fs : List Event) → length (s .stations) ≡ n → answer-call net paths (word port v slots) s .answer ≡ Ok fs → Gone (word port v slots) s fs
@@ -150,11 +150,11 @@ module _ (ms : Meaning) (q : ℕ) (o : Order) (paths : List Path) where
           let d = passed-by (number (due-before-words net o s)) _ s _ fs (c .1) in
           let news : deliver ms q paths 0 port v (s .stations) .news ≡ fs = ok-inj _ fs (d .1) in
           let kept : answer-call net paths (word port v slots) s .state ≡ answered s (deliver ms q paths 0 port v (s .stations)) .state =
-            simp (a .0, b .0, c .0, d .0) in
+          simp (a .0, b .0, c .0, d .0) in
           record {
             end = state-at (deliver ms q paths 0 port v (s .stations) .stations);
             does = subst (λ es. Does rules n o paths (state-at (s .stations)) (runs.word port v) es (state-at (deliver ms q paths 0 port v (s .stations) .stations))) news
-              (worded (quiet-all s (number-none _ (c .0))) (λ first. due-none s (subst (λ r. due-before-words net r s ≡ None) first (number-none _ (d .0))))
+                (worded (quiet-all s (number-none _ (c .0))) (λ first. due-none s (subst (λ r. due-before-words net r s ≡ None) first (number-none _ (d .0))))
                 (delivered paths (paths-fine n 1 paths (a .0)) 0 port v (s .stations) long));
             shown = λ i l. sym (ap (λ z. state-at (z .stations) i) kept);
           }
@@ -190,13 +190,13 @@ module _ (ms : Meaning) (q : ℕ) (o : Order) (paths : List Path) where
       pub land-news : (i s e : ℕ) (σ : List StationState) → land i s e (meaning-at ms i .stance s) σ .news ≡ landing rules n o paths i (landed i s e)
       land-news i s e σ = elim (meaning-at ms i .stance s .busy) as
           (λ b. cond b (passed [] (set σ i (in-stance s e))) (passed (event Internal (suc i) 0 (meaning-at ms i .stance s .phase) ∷ []) (set σ i (in-stance s 0))) .news ≡
-            cond b [] (event Internal (suc i) 0 (meaning-at ms i .stance s .phase) ∷ []))
+          cond b [] (event Internal (suc i) 0 (meaning-at ms i .stance s .phase) ∷ []))
           [ true ↦ refl | false ↦ refl ]
 
       pub land-states : (i s e : ℕ) (σ : List StationState) → land i s e (meaning-at ms i .stance s) σ .stations ≡ set σ i (landed i s e)
       land-states i s e σ = elim (meaning-at ms i .stance s .busy) as
           (λ b. cond b (passed [] (set σ i (in-stance s e))) (passed (event Internal (suc i) 0 (meaning-at ms i .stance s .phase) ∷ []) (set σ i (in-stance s 0))) .stations ≡
-            set σ i (in-stance s (cond b e 0)))
+          set σ i (in-stance s (cond b e 0)))
           [ true ↦ refl | false ↦ refl ]
 
       pub record Acted (i : ℕ) (m : Option Move) (s : NetState) (fs : List Event) : Type 0 where

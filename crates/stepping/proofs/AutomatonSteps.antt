@@ -139,11 +139,12 @@ module _ (a : AutomatonNet) (law : LawfulAutomata a) (q : ℕ) (some : 1 ≤ q) 
       × (location-at (at i) (y .location) .phase ≡ telling (net-of a q) s (suc i) .0)
       × (location-at (at i) (y .location) .sent ≡ telling (net-of a q) s (suc i) .1)
       × Is-time (y .clock) (fraction (telling (net-of a q) s (suc i) .2) (q * factor-of i))
-  told-by s i k y e l t =
-      ( l
-      , ap (λ x. location-at (at i) x .phase) e ∙ sym (tells-phase s i k)
-      , ap (λ x. location-at (at i) x .sent) e ∙ sym (tells-sent s i k)
-      , subst (λ x. Is-time (y .clock) (fraction x (q * factor-of i))) (sym (tells-elapsed s i k)) t )
+  told-by s i k y e l t = (
+    l,
+    ap (λ x. location-at (at i) x .phase) e ∙ sym (tells-phase s i k),
+    ap (λ x. location-at (at i) x .sent) e ∙ sym (tells-sent s i k),
+    subst (λ x. Is-time (y .clock) (fraction x (q * factor-of i))) (sym (tells-elapsed s i k)) t,
+  )
 
   to-at : (s : NetState) (σ : ℕ → AutomatonState) → Stands s σ → Automata-at a q s σ
   to-at s σ h = record {
@@ -157,7 +158,7 @@ module _ (a : AutomatonNet) (law : LawfulAutomata a) (q : ℕ) (some : 1 ≤ q) 
       let m = h i l in
       let t = subst (λ x. Is-time (σ i .clock) (fraction x (q * factor-of i))) (tells-elapsed s i k) (stood .told i k .3) in
       let clock : One-time (σ i .clock) (fraction (state-at (s .stations) i .elapsed) (q * factor-of i)) =
-        record { left = t .0; right = one-le-mul some (factor-at i k); equal = eqb-true _ _ (t .1) } in
+      record { left = t .0; right = one-le-mul some (factor-at i k); equal = eqb-true _ _ (t .1) } in
       let same : τ i .location ≡ σ i .location = m .location ∙ sym (stood .in-stances i k) in
       let b = location-at (at i) (σ i .location) .bound in
       record {
@@ -170,8 +171,8 @@ module _ (a : AutomatonNet) (law : LawfulAutomata a) (q : ℕ) (some : 1 ≤ q) 
   of-start : (s : NetState) (τ : ℕ → AutomatonState) → Stands s τ → Automata-at a q s (automaton-start a q s)
   of-start s τ h = record {
     told = λ i k.
-      let m = h i (in-net i k) in
-      told-by s i k (automaton-start a q s i) refl (subst (λ x. x < length (at i .locations)) (m .location) (m .here)) (one-le-mul some (factor-at i k), eq-eqb _ _ refl);
+        let m = h i (in-net i k) in
+        told-by s i k (automaton-start a q s i) refl (subst (λ x. x < length (at i .locations)) (m .location) (m .here)) (one-le-mul some (factor-at i k), eq-eqb _ _ refl);
     in-stances = λ i k. refl;
   }
 
@@ -184,20 +185,20 @@ module _ (a : AutomatonNet) (law : LawfulAutomata a) (q : ℕ) (some : 1 ≤ q) 
       let r = left-stood (geared ms) q (a .order) (a .paths) some (steady ms sound) (rules-of a) S forth back calls start (opening-state a) (start-whole ms sound (a .paths) (a .order) q) start-stands in
       record {
         makes = λ slots room.
-          makes ms sound (a .paths) (a .order) q slots (subst (λ k. k ≤ 1000000) (sym one-scale) (law .scale-fits))
+            makes ms sound (a .paths) (a .order) q slots (subst (λ k. k ≤ 1000000) (sym one-scale) (law .scale-fits))
             (ap (λ k. bad-paths k (a .paths)) many ∙ paths-good (length (a .automata)) (a .paths) (law .paths-fit)) (subst (λ k. k ≤ slots) (sym many) room) some few
-          ∙ ap Ok (made-opened 1 (a .automata));
+            ∙ ap Ok (made-opened 1 (a .automata));
         opens = to-at start (opening-state a) start-stands;
         stands = of-start (left a q calls) (r .1 .0) (r .1 .1);
         steps = λ σ stood cs es.
-          let here = of-at (left a q calls) σ (r .1 .0) (r .1 .1) stood in
-          record {
-            obeyed-allowed = λ h.
-              let t = obeyed-runs (geared ms) q (a .order) (a .paths) some (steady ms sound) (rules-of a) S forth back cs (left a q calls) es σ (r .0) here h in
-              (t .0, (subst (λ k. Run (rules-of a) k (a .order) (a .paths) σ (acts-of q cs) es (t .0)) all (t .1 .0), to-at (left-by (net-of a q) (a .paths) cs (left a q calls)) (t .0) (t .1 .1)));
-            allowed-obeyed = λ enough τ run.
-              let t = runs-obeyed (geared ms) q (a .order) (a .paths) some (steady ms sound) (rules-of a) S forth back fine cs (left a q calls) es σ τ (r .0) here enough
-                (subst (λ k. Run (rules-of a) k (a .order) (a .paths) σ (acts-of q cs) es τ) (sym all) run) in
-              (t .0, to-at (left-by (net-of a q) (a .paths) cs (left a q calls)) τ (t .1));
-          };
+            let here = of-at (left a q calls) σ (r .1 .0) (r .1 .1) stood in
+            record {
+              obeyed-allowed = λ h.
+                  let t = obeyed-runs (geared ms) q (a .order) (a .paths) some (steady ms sound) (rules-of a) S forth back cs (left a q calls) es σ (r .0) here h in
+                  (t .0, (subst (λ k. Run (rules-of a) k (a .order) (a .paths) σ (acts-of q cs) es (t .0)) all (t .1 .0), to-at (left-by (net-of a q) (a .paths) cs (left a q calls)) (t .0) (t .1 .1)));
+              allowed-obeyed = λ enough τ run.
+                  let t = runs-obeyed (geared ms) q (a .order) (a .paths) some (steady ms sound) (rules-of a) S forth back fine cs (left a q calls) es σ τ (r .0) here enough
+                  (subst (λ k. Run (rules-of a) k (a .order) (a .paths) σ (acts-of q cs) es τ) (sym all) run) in
+                  (t .0, to-at (left-by (net-of a q) (a .paths) cs (left a q calls)) τ (t .1));
+            };
       }

@@ -131,7 +131,7 @@ module _ (L : ℕ) (a : Automaton) (law : Lawful-automaton a) (geared : 1 ≤ fa
   due-suits x y m =
       ap (λ l. not (l .committed) && at-bound (mapped (λ z. z * f) (l .bound)) (fraction (x .elapsed) q)) (at x y m)
       ∙ due-core (location-at a (y .location) .committed) (location-at a (y .location) .bound) _ (location-law (y .location) (m .here) .not-both) (y .clock)
-        (gear-bound f (x .elapsed) q (location-at a (y .location) .bound) ∙ sym (one-time .at-bound-same (location-at a (y .location) .bound) (y .clock) _ (m .clock)))
+      (gear-bound f (x .elapsed) q (location-at a (y .location) .bound) ∙ sym (one-time .at-bound-same (location-at a (y .location) .bound) (y .clock) _ (m .clock)))
 
   later-clock : (d : Fraction) (x : StationState) (y : AutomatonState) → d .denominator ≡ q → S x y → One-time (plus (y .clock) (over d f)) (fraction (x .elapsed + parts-in d q) (q * f))
   later-clock d x y e m = later-one q f (x .elapsed) (y .clock) d few geared e (m .clock)
@@ -305,10 +305,13 @@ module _ (L : ℕ) (a : Automaton) (law : Lawful-automaton a) (geared : 1 ≤ fa
       let both : move-to w (x′ .stance) ≡ move-to (v .0) (r .move .goal) = inner (sym (h .0) ∙ v .1 .1) in
       let ew : w ≡ v .0 = ap (λ k. k .word) both in
       let es : x′ .stance ≡ r .move .goal = ap (λ k. k .follows) both in
-      let y′ = through (r .move) y in
-      ( y′
-      , ( subst (Any (Takes y y′ w)) (sym (r .is)) (any-last (Takes y y′ w) (r .before) (r .move) (subst (Moves-with (r .move .label)) (sym ew) (v .1 .0), r .opens, refl))
-        , landed x x′ y (r .move) m (ready-goal y (m .here) r) (r .resets) es (h .1) ) )
+      let y′ = through (r .move) y in (
+        y′,
+        (
+          subst (Any (Takes y y′ w)) (sym (r .is)) (any-last (Takes y y′ w) (r .before) (r .move) (subst (Moves-with (r .move .label)) (sym ew) (v .1 .0), r .opens, refl)),
+          landed x x′ y (r .move) m (ready-goal y (m .here) r) (r .resets) es (h .1),
+        ),
+      )
 
   moves-back : (y y′ : AutomatonState) (x : StationState) (w : Option Word) → (P .busy y ≡ true) ⊎ (P .due y ≡ true) → S x y → P .Moves y w y′ → (x′ : StationState) × (A .Moves x w x′ × S x′ y′)
   moves-back y y′ x w rd m h =
@@ -316,10 +319,13 @@ module _ (L : ℕ) (a : Automaton) (law : Lawful-automaton a) (geared : 1 ≤ fa
       let v = move-at x y m r in
       let k = last-any (Takes y y′ w) (λ t e b. hearing-sends (t .label) w e (b .0)) (r .before) (r .move) (r .hears) (subst (Any (Takes y y′ w)) (r .is) h) in
       let ew : w ≡ v .0 = with-only (r .move .label) w (v .0) (k .0) (v .1 .0) in
-      let x′ : StationState = in-stance (r .move .goal) (cond (location-at a (r .move .goal) .committed) (x .elapsed) 0) in
-      ( x′
-      , ( (v .1 .1 ∙ ap (λ u. Some (move-to u (r .move .goal))) (sym ew), refl)
-        , subst (S x′) (sym (k .2)) (landed x x′ y (r .move) m (ready-goal y (m .here) r) (r .resets) refl refl) ) )
+      let x′ : StationState = in-stance (r .move .goal) (cond (location-at a (r .move .goal) .committed) (x .elapsed) 0) in (
+        x′,
+        (
+          (v .1 .1 ∙ ap (λ u. Some (move-to u (r .move .goal))) (sym ew), refl),
+          subst (S x′) (sym (k .2)) (landed x x′ y (r .move) m (ready-goal y (m .here) r) (r .resets) refl refl),
+        ),
+      )
 
   pub automaton-forth : Follows-suit (In-parts q) A P S
   automaton-forth = record {

@@ -65,11 +65,12 @@ module _ (ms : Meaning) (q : ℕ) (o : Order) (paths : List Path) (some : 1 ≤ 
   -- every state that calls leave is stood by
   pub left-stood : (cs : List Call) (s : NetState) (σ : ℕ → X) → Whole ms (s .stations) → Stood s σ → Whole ms (left-by net paths cs s .stations) × ((τ : ℕ → X) × Stood (left-by net paths cs s) τ)
   left-stood [] s σ whole stood = (whole, (σ, stood))
-  left-stood (c ∷ cs) s σ whole stood = elim (told-or-kept ms q o paths steady some c s)
-      [ inl told ↦
-          (let g = obeyed-does c s (told .0) σ whole stood (told .1) in
-          left-stood cs (answer-call net paths c s .state) (g .0) (call-whole ms q steady o paths c s whole) (g .1 .1))
-      | inr kept ↦ left-stood cs (answer-call net paths c s .state) σ (call-whole ms q steady o paths c s whole) (subst (λ z. Stood z σ) (sym kept) stood) ]
+  left-stood (c ∷ cs) s σ whole stood = elim (told-or-kept ms q o paths steady some c s) [
+    | inl told ↦
+        (let g = obeyed-does c s (told .0) σ whole stood (told .1) in
+        left-stood cs (answer-call net paths c s .state) (g .0) (call-whole ms q steady o paths c s whole) (g .1 .1))
+    | inr kept ↦ left-stood cs (answer-call net paths c s .state) σ (call-whole ms q steady o paths c s whole) (subst (λ z. Stood z σ) (sym kept) stood)
+  ]
 
   pub obeyed-runs : (cs : List Call) (s : NetState) (es : List Event) (σ : ℕ → X) → Whole ms (s .stations) → Stood s σ → All-obeyed net paths cs s es →
       (τ : ℕ → X) × (Run B n o paths σ (acts-of q cs) es τ × Stood (left-by net paths cs s) τ)

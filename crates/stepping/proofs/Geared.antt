@@ -33,8 +33,8 @@ pub paths-good : (n : ℕ) (ps : List Path) → All (Lawful-path n) ps → bad-p
 paths-good n ps h =
     none-bad (bad-path n) 1 ps
     (all-weaker (Lawful-path n) _
-      (λ p l. or-from _ _ (or-from _ _ (le-ltb n (p .sender) (l .sender-known)) (le-ltb n (p .hearer) (l .hearer-known))) (ne-eqb (p .sender) (p .hearer) (l .ends-differ)))
-      ps h)
+    (λ p l. or-from _ _ (or-from _ _ (le-ltb n (p .sender) (l .sender-known)) (le-ltb n (p .hearer) (l .hearer-known))) (ne-eqb (p .sender) (p .hearer) (l .ends-differ)))
+    ps h)
 
 factor-some : (f s L : ℕ) → 1 ≤ L → f * s ≡ L → 1 ≤ f
 factor-some zero s L some e = absurd (omega arith)
@@ -101,17 +101,17 @@ module _ (ms : Meaning) (sound : Sound ms) where
     start-whole = record {
       long = length-map ms _ ∙ sym long;
       known = λ i l.
-        let h : i < length ms = subst (λ n. i < n) long l in
-        ap₂ (λ m (x : StationState). m .known (x .stance)) (gear-at i h) (start-at i h) ∙ station-sound i h .opening-known;
+          let h : i < length ms = subst (λ n. i < n) long l in
+          ap₂ (λ m (x : StationState). m .known (x .stance)) (gear-at i h) (start-at i h) ∙ station-sound i h .opening-known;
     }
 
     -- a making with everything in range succeeds
     pub makes : (slots : ℕ) → L ≤ 1000000 → bad-paths (length ms) ps ≡ None → length ms ≤ slots → 1 ≤ q → q ≤ 1000 → make ms ps o q slots .answer ≡ Ok (created 1 ms)
     makes slots fits fine room some few =
         let a : first-bad (misfit L) 1 ms ≡ None =
-          none-bad (misfit L) 1 ms (all-from-getD _ ms blank-meaning (λ i l.
-            or-from _ _ (not-zero (factor L (meaning-at ms i)) (some-factor i l))
-            (le-ltb 1000000 _ (let e = exact i l in omega arith)))) in
+        none-bad (misfit L) 1 ms (all-from-getD _ ms blank-meaning (λ i l.
+        or-from _ _ (not-zero (factor L (meaning-at ms i)) (some-factor i l))
+        (le-ltb 1000000 _ (let e = exact i l in omega arith)))) in
         let b : at-zero (ltb slots (length ms)) ≡ None = ap at-zero (le-ltb slots (length ms) room) in
         let c : at-zero (eqb q 0 || ltb 1000 q) ≡ None = ap at-zero (or-from _ _ (not-zero q some) (le-ltb 1000 q few)) in
         simp (a, fine, b, c)

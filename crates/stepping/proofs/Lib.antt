@@ -10,3 +10,5 @@ pub mod Geared
 pub mod ModelSteps
 pub mod AutomatonSuits
 pub mod AutomatonSteps
+pub mod Declined
+pub mod AnyMachine

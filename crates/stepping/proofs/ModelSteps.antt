@@ -140,10 +140,11 @@ module _ (m : ModelNet) (law : LawfulModel m) (q : ℕ) (some : 1 ≤ q) where
 
   to-stands : (s : NetState) (σ : ℕ → ModelState) → Stands s σ → Model-stands m q s σ
   to-stands s σ h i k =
-      let sits = h i (in-net i k) in
-      ( sym (tells-phase s i k (σ i) sits)
-      , sym (tells-sent s i k (σ i) sits)
-      , subst (λ e. Is-time (σ i .age) (fraction e (q * L))) (sym (tells-elapsed s i k)) (sits .age .left, eq-eqb _ _ (sits .age .equal)) )
+      let sits = h i (in-net i k) in (
+        sym (tells-phase s i k (σ i) sits),
+        sym (tells-sent s i k (σ i) sits),
+        subst (λ e. Is-time (σ i .age) (fraction e (q * L))) (sym (tells-elapsed s i k)) (sits .age .left, eq-eqb _ _ (sits .age .equal)),
+      )
 
   time-one : (t : Fraction) (e : ℕ) → Is-time t (fraction e (q * L)) → One-time t (fraction e (q * L))
   time-one t e h = record { left = h .0; right = one-le-mul some L-some; equal = eqb-true _ _ (h .1) }
@@ -178,20 +179,20 @@ module _ (m : ModelNet) (law : LawfulModel m) (q : ℕ) (some : 1 ≤ q) where
       let r = left-stood (geared ms) q (m .order) (m .paths) some (steady ms sound) (rules-of m) S forth back calls start (λ i. fresh (st i .opening)) (start-whole ms sound (m .paths) (m .order) q) start-stands in
       record {
         makes = λ slots room.
-          makes ms sound (m .paths) (m .order) q slots (subst (λ k. k ≤ 1000000) (sym one-scale) (law .scale-fits))
+            makes ms sound (m .paths) (m .order) q slots (subst (λ k. k ≤ 1000000) (sym one-scale) (law .scale-fits))
             (ap (λ k. bad-paths k (m .paths)) many ∙ paths-good (length (m .stations)) (m .paths) (law .paths-fit)) (subst (λ k. k ≤ slots) (sym many) room) some few
-          ∙ ap Ok (made-opened 1 (m .stations));
+            ∙ ap Ok (made-opened 1 (m .stations));
         opens = to-stands start (λ i. fresh (st i .opening)) start-stands;
         stands = of-start (left m q calls) (r .1 .0) (r .1 .1);
         steps = λ σ stood cs es.
-          let here = of-stands (left m q calls) σ (r .1 .0) (r .1 .1) stood in
-          record {
-            obeyed-allowed = λ h.
-              let t = obeyed-runs (geared ms) q (m .order) (m .paths) some (steady ms sound) (rules-of m) S forth back cs (left m q calls) es σ (r .0) here h in
-              (t .0, (subst (λ k. Run (rules-of m) k (m .order) (m .paths) σ (acts-of q cs) es (t .0)) all (t .1 .0), to-stands (left-by (net-of m q) (m .paths) cs (left m q calls)) (t .0) (t .1 .1)));
-            allowed-obeyed = λ enough τ run.
-              let t = runs-obeyed (geared ms) q (m .order) (m .paths) some (steady ms sound) (rules-of m) S forth back fine cs (left m q calls) es σ τ (r .0) here enough
-                (subst (λ k. Run (rules-of m) k (m .order) (m .paths) σ (acts-of q cs) es τ) (sym all) run) in
-              (t .0, to-stands (left-by (net-of m q) (m .paths) cs (left m q calls)) τ (t .1));
-          };
+            let here = of-stands (left m q calls) σ (r .1 .0) (r .1 .1) stood in
+            record {
+              obeyed-allowed = λ h.
+                  let t = obeyed-runs (geared ms) q (m .order) (m .paths) some (steady ms sound) (rules-of m) S forth back cs (left m q calls) es σ (r .0) here h in
+                  (t .0, (subst (λ k. Run (rules-of m) k (m .order) (m .paths) σ (acts-of q cs) es (t .0)) all (t .1 .0), to-stands (left-by (net-of m q) (m .paths) cs (left m q calls)) (t .0) (t .1 .1)));
+              allowed-obeyed = λ enough τ run.
+                  let t = runs-obeyed (geared ms) q (m .order) (m .paths) some (steady ms sound) (rules-of m) S forth back fine cs (left m q calls) es σ τ (r .0) here enough
+                  (subst (λ k. Run (rules-of m) k (m .order) (m .paths) σ (acts-of q cs) es τ) (sym all) run) in
+                  (t .0, to-stands (left-by (net-of m q) (m .paths) cs (left m q calls)) τ (t .1));
+            };
       }

@@ -201,7 +201,7 @@ module _ (o : Order) (L : ℕ) (st : Station) (law : Lawful-station o st) (scale
   wait-suits d x y e quiet m =
       ap (λ z. within-bound (z .lifetime) (fraction (x .elapsed + parts-in d q) q)) (at-stance x y m)
       ∙ wait-core (y .phase) (y .sent) (x .elapsed + parts-in d q) (plus (y .age) (over d L)) (m .here)
-        (sym (ap (λ z. z .busy) (at-stance x y m)) ∙ quiet) (later-suits d x y e m .age)
+      (sym (ap (λ z. z .busy) (at-stance x y m)) ∙ quiet) (later-suits d x y e m .age)
 
   -- what a quiet station hears
   abbrev home-hears : ℕ → ℕ → ℕ → Fraction → Option ℕ
@@ -220,8 +220,8 @@ module _ (o : Order) (L : ℕ) (st : Station) (law : Lawful-station o st) (scale
   hears-home i p v e age l one =
       first-same _ _ (λ x. stance-number (x .goal) 0) (edges-of (at i))
       (all-weaker (Lawful-edge (length (st .phases))) _
-        (λ x k. one-time .edge-same o (lifetime-of (at i)) (lifetime-of (at i)) p v _ _ x x (life-one _ (phase-law i l .life-fits)) (asked-one e age one) (edge-one _ x k))
-        (edges-of (at i)) (phase-law i l .edges-fit))
+      (λ x k. one-time .edge-same o (lifetime-of (at i)) (lifetime-of (at i)) p v _ _ x x (life-one _ (phase-law i l .life-fits)) (asked-one e age one) (edge-one _ x k))
+      (edges-of (at i)) (phase-law i l .edges-fit))
 
   blank-edge : Edge
   blank-edge = record { goal = 0; port = 0; lowest = 0; highest = 0; window = record { low = zero-time; «low_open» = false; high = Absent } }
@@ -243,10 +243,13 @@ module _ (o : Order) (L : ℕ) (st : Station) (law : Lawful-station o st) (scale
       go : (j : ℕ) → y .sent ≡ j → (y′ : ModelState) × (M .Hears y p v y′ × Sits x′ y′)
       go zero e =
           let r = first-found (edge-fits o (lifetime-of (at (y .phase))) p v (y .age)) (λ k. stance-number (k .goal) 0) blank-edge (edges-of (at (y .phase))) (x′ .stance) (sym (hears-quiet x y p v m e) ∙ h .0) in
-          let k = getD (edges-of (at (y .phase))) (r .place) blank-edge in
-          ( fresh (k .goal)
-          , ( (e, any-at _ blank-edge (edges-of (at (y .phase))) (r .place) (r .within) (r .fit, refl))
-            , fresh-sits x′ (k .goal) (goal-here y (r .place) (m .here) (r .within)) (r .goes) (h .1) ) )
+          let k = getD (edges-of (at (y .phase))) (r .place) blank-edge in (
+            fresh (k .goal),
+            (
+              (e, any-at _ blank-edge (edges-of (at (y .phase))) (r .place) (r .within) (r .fit, refl)),
+              fresh-sits x′ (k .goal) (goal-here y (r .place) (m .here) (r .within)) (r .goes) (h .1),
+            ),
+          )
       go (suc j) e = absurd (some-not-none _ (sym (h .0) ∙ hears-busy x y p v j m e))
 
   hears-back : (y y′ : ModelState) (x : StationState) (p v : ℕ) → Sits x y → M .Hears y p v y′ → (x′ : StationState) × (A .Hears x p v x′ × Sits x′ y′)
@@ -255,10 +258,13 @@ module _ (o : Order) (L : ℕ) (st : Station) (law : Lawful-station o st) (scale
       let apart = phase-law (y .phase) (m .here) .edges-apart p v (y .age) (m .age .left) in
       let r = only-first (edge-fits o (lifetime-of (at (y .phase))) p v (y .age)) (λ k. stance-number (k .goal) 0) blank-edge (λ k. y′ ≡ fresh (k .goal)) edges apart (h .1) in
       let k = getD edges (r .place) blank-edge in
-      let x′ : StationState = in-stance (stance-number (k .goal) 0) 0 in
-      ( x′
-      , ( (hears-quiet x y p v m (h .0) ∙ r .is-first, refl)
-        , subst (Sits x′) (sym (r .holds)) (fresh-sits x′ (k .goal) (goal-here y (r .place) (m .here) (r .within)) refl refl) ) )
+      let x′ : StationState = in-stance (stance-number (k .goal) 0) 0 in (
+        x′,
+        (
+          (hears-quiet x y p v m (h .0) ∙ r .is-first, refl),
+          subst (Sits x′) (sym (r .holds)) (fresh-sits x′ (k .goal) (goal-here y (r .place) (m .here) (r .within)) refl refl),
+        ),
+      )
 
   deaf-suits : (x : StationState) (y : ModelState) (p v : ℕ) → Sits x y → A .Deaf x p v → M .Deaf y p v
   deaf-suits x y p v m h = go (y .sent) refl
@@ -317,10 +323,10 @@ module _ (o : Order) (L : ℕ) (st : Station) (law : Lawful-station o st) (scale
     place = record { phase = y .phase; sent = suc (y .sent); age = y .age };
     sends = (refl, refl);
     sits = λ x x′ m k e.
-      let more = drop-more (words-of (at (y .phase))) (y .sent) a c rest d in
-      let four = phase-law (y .phase) (m .here) .few-words in
-      let kept : x′ .elapsed ≡ x .elapsed = e ∙ ap (λ b. cond b (x .elapsed) 0) (busy-number (x′ .stance) (y .phase) (suc (y .sent)) (omega arith) k ∙ lt-ltb 0 (suc (y .sent)) (omega arith)) in
-      record { here = m .here; fewer = λ z. more; stance = k; age = subst (λ n. One-time (y .age) (fraction n (q * L))) (sym kept) (m .age) };
+        let more = drop-more (words-of (at (y .phase))) (y .sent) a c rest d in
+        let four = phase-law (y .phase) (m .here) .few-words in
+        let kept : x′ .elapsed ≡ x .elapsed = e ∙ ap (λ b. cond b (x .elapsed) 0) (busy-number (x′ .stance) (y .phase) (suc (y .sent)) (omega arith) k ∙ lt-ltb 0 (suc (y .sent)) (omega arith)) in
+        record { here = m .here; fewer = λ z. more; stance = k; age = subst (λ n. One-time (y .age) (fraction n (q * L))) (sym kept) (m .age) };
   }
 
   led-at : (x : StationState) (y : ModelState) → Sits x y → Ready y → Led y (next-of (at (y .phase))) (rest-of y) (move-of y)
@@ -337,20 +343,26 @@ module _ (o : Order) (L : ℕ) (st : Station) (law : Lawful-station o st) (scale
   moves-suits x x′ y w r m h =
       let ready = ready-too x y m r in
       let t = led-at x y m ready in
-      let same : move-to w (x′ .stance) ≡ move-of y = inner (sym (h .0) ∙ move-is x y m ready) in
-      ( t .place
-      , ( leave x y m ready w (t .place)
-          (subst (λ u. Sends-next y (next-of (at (y .phase))) (rest-of y) u (t .place)) (sym (ap (λ k. k .word) same)) (t .sends))
-        , t .sits x x′ m (ap (λ k. k .follows) same) (h .1) ) )
+      let same : move-to w (x′ .stance) ≡ move-of y = inner (sym (h .0) ∙ move-is x y m ready) in (
+        t .place,
+        (
+          leave x y m ready w (t .place)
+              (subst (λ u. Sends-next y (next-of (at (y .phase))) (rest-of y) u (t .place)) (sym (ap (λ k. k .word) same)) (t .sends)),
+          t .sits x x′ m (ap (λ k. k .follows) same) (h .1),
+        ),
+      )
 
   moves-back : (y y′ : ModelState) (x : StationState) (w : Option Word) → Ready y → Sits x y → M .Moves y w y′ → (x′ : StationState) × (A .Moves x w x′ × Sits x′ y′)
   moves-back y y′ x w ready m h =
       let t = led-at x y m ready in
       let x′ : StationState = in-stance (move-of y .follows) (cond (stance-of (move-of y .follows) .busy) (x .elapsed) 0) in
-      let same = sends-only y (next-of (at (y .phase))) (rest-of y) w (move-of y .word) y′ (t .place) (leaves-so (at (y .phase)) y w y′ h) (t .sends) in
-      ( x′
-      , ( (move-is x y m ready ∙ ap (λ u. Some (move-to u (move-of y .follows))) (sym (same .0)), refl)
-        , subst (Sits x′) (sym (same .1)) (t .sits x x′ m refl refl) ) )
+      let same = sends-only y (next-of (at (y .phase))) (rest-of y) w (move-of y .word) y′ (t .place) (leaves-so (at (y .phase)) y w y′ h) (t .sends) in (
+        x′,
+        (
+          (move-is x y m ready ∙ ap (λ u. Some (move-to u (move-of y .follows))) (sym (same .0)), refl),
+          subst (Sits x′) (sym (same .1)) (t .sits x x′ m refl refl),
+        ),
+      )
 
   pub model-forth : Follows-suit (In-parts q) A M Sits
   model-forth = record {

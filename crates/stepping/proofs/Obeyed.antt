@@ -83,7 +83,7 @@ module _ (ms : Meaning) (q : ℕ) (o : Order) (paths : List Path) (steady : Stea
       let is-new : x ≡ new = ap (λ e. in-stance (x .stance) e) (hears .1) in
       let r = delivered-is (set σ h new) (length-set σ h new ∙ long) (put-shown ρ σ long s h l x new is-new) c in
       is-by from port v (p ∷ ps) σ _ _ _ (take-it p ps from port v σ _ way (to-station p v σ h (Some (x .stance)) to some))
-        (ap (λ z. event Arrival (suc h) (p .«hearer_port») v ∷ event External (suc h) 0 (meaning-at ms h .stance (x .stance) .phase) ∷ z) (r .news)) (r .shown)
+      (ap (λ z. event Arrival (suc h) (p .«hearer_port») v ∷ event External (suc h) 0 (meaning-at ms h .stance (x .stance) .phase) ∷ z) (r .news)) (r .shown)
 
   abbrev net : Net
   net = record { stations = ms; order = o; parts = q }
@@ -112,12 +112,12 @@ module _ (ms : Meaning) (q : ℕ) (o : Order) (paths : List Path) (steady : Stea
       let whole : parts-in (fraction d q) q ≡ d = mul-div-cancel d some in
       let a = none-busy s quiet in
       let b : calls.lowest-past net s d ≡ None = none-found (past-at ms q (s .stations) d) 0 n (λ i l m.
-        not-true _ (runs-on (stance-at ms (s .stations) i .lifetime) q (state-at (s .stations) i .elapsed + d) ∙
-          subst (λ k. within-bound (stance-at ms (s .stations) i .lifetime) (fraction (state-at (s .stations) i .elapsed + k) q) ≡ true) whole (may i (omega arith)))) in
+      not-true _ (runs-on (stance-at ms (s .stations) i .lifetime) q (state-at (s .stations) i .elapsed + d) ∙
+      subst (λ k. within-bound (stance-at ms (s .stations) i .lifetime) (fraction (state-at (s .stations) i .elapsed + k) q) ≡ true) whole (may i (omega arith)))) in
       let c : at-zero (ltb 1000000000000000 (s .total + d)) ≡ None = ap at-zero (le-ltb 1000000000000000 (s .total + d) few) in
       let e : answer-call net paths (wait d) s ≡ record { answer = Ok []; state = waited net d s } = simp (a, b, c) in
       obeyed-by (wait d) s [] _ _ e refl
-        (λ i l. sym (wait-at d (s .stations) i (omega arith) ∙ ap (λ k. in-stance (state-at (s .stations) i .stance) (state-at (s .stations) i .elapsed + k)) (sym whole)))
+      (λ i l. sym (wait-at d (s .stations) i (omega arith) ∙ ap (λ k. in-stance (state-at (s .stations) i .stance) (state-at (s .stations) i .elapsed + k)) (sym whole)))
 
   word-obeyed : (port v slots : ℕ) (s : NetState) (es : List Event) (τ : ℕ → StationState) → bad-paths n paths ≡ None → length (s .stations) ≡ n → room paths ≤ slots →
       Does rules n o paths (state-at (s .stations)) (runs.word port v) es τ → Obeyed (word port v slots) s es τ
@@ -156,12 +156,12 @@ module _ (ms : Meaning) (q : ℕ) (o : Order) (paths : List Path) (steady : Stea
       let t = turn-acts s i turn in
       let e : answer-call net paths (step slots) s ≡ calls.step-of net paths s (Some i) = simp (fine, k, t) in
       let m : calls.step-of net paths s (Some i) ≡ answered s (act ms q paths i (Some (move-to w (x .stance))) (s .stations)) =
-        ap (λ z. answered s (act ms q paths i z (s .stations))) (move .0) in
+      ap (λ z. answered s (act ms q paths i z (s .stations))) (move .0) in
       let news : act ms q paths i (Some (move-to w (x .stance))) (s .stations) .news ≡ fs ++ landing rules n o paths i x =
-        ap₂ _++_ (is .0) (land-news ms q o paths steady some i (x .stance) e₀ (mid .stations)) in
+      ap₂ _++_ (is .0) (land-news ms q o paths steady some i (x .stance) e₀ (mid .stations)) in
       let there : Shown n (put τ i x) (act ms q paths i (Some (move-to w (x .stance))) (s .stations) .stations) =
-        subst (Shown n (put τ i x)) (sym (land-states ms q o paths steady some i (x .stance) e₀ (mid .stations)))
-        (put-shown τ (mid .stations) (send-whole ms q steady paths (paths-fine n 1 paths fine) i w (s .stations) whole .long) (is .1) i (turn-in (state-at (s .stations)) i turn) x (landed ms q o paths steady some i (x .stance) e₀) (ap (λ z. in-stance (x .stance) z) (move .1))) in
+      subst (Shown n (put τ i x)) (sym (land-states ms q o paths steady some i (x .stance) e₀ (mid .stations)))
+      (put-shown τ (mid .stations) (send-whole ms q steady paths (paths-fine n 1 paths fine) i w (s .stations) whole .long) (is .1) i (turn-in (state-at (s .stations)) i turn) x (landed ms q o paths steady some i (x .stance) e₀) (ap (λ z. in-stance (x .stance) z) (move .1))) in
       obeyed-by (step slots) s _ _ _ (e ∙ m) (ap Ok news) there
 
   pub call-obeyed : bad-paths n paths ≡ None → (c : Call) (s : NetState) (es : List Event) (τ : ℕ → StationState) → Whole ms (s .stations) → Enough net paths c s →

@@ -113,9 +113,10 @@ module _ (ms : Meaning) where
     deliver-whole [] fine from port v σ w = w
     deliver-whole (p ∷ ps) fine from port v σ w =
         elim (leaves p from port) as
-          (λ b. Whole (cond b (and-then (arrive ms q σ (p .hearer) (p .«hearer_port») v) (deliver ms q ps from port v)) (deliver ms q ps from port v σ) .stations))
-        [ true ↦ deliver-whole ps (fine .1) from port v _ (arrive-whole σ (p .hearer) (p .«hearer_port») v (fine .0) w)
-        | false ↦ deliver-whole ps (fine .1) from port v σ w ]
+        (λ b. Whole (cond b (and-then (arrive ms q σ (p .hearer) (p .«hearer_port») v) (deliver ms q ps from port v)) (deliver ms q ps from port v σ) .stations)) [
+          | true ↦ deliver-whole ps (fine .1) from port v _ (arrive-whole σ (p .hearer) (p .«hearer_port») v (fine .0) w)
+          | false ↦ deliver-whole ps (fine .1) from port v σ w
+        ]
 
     pub send-whole : (ps : List Path) → Fine n ps → (i : ℕ) (w : Option Word) (σ : List StationState) → Whole σ → Whole (send ms q ps i w σ .stations)
     send-whole ps fine i None σ h = h
@@ -124,7 +125,7 @@ module _ (ms : Meaning) where
     land-whole : (i s e : ℕ) (x : Stance) (σ : List StationState) → i < n → meaning-at ms i .known s ≡ true → Whole σ → Whole (land i s e x σ .stations)
     land-whole i s e x σ l k w =
         elim (x .busy) as
-          (λ b. Whole (cond b (passed [] (set σ i (in-stance s e))) (passed (event Internal (suc i) 0 (x .phase) ∷ []) (set σ i (in-stance s 0))) .stations))
+        (λ b. Whole (cond b (passed [] (set σ i (in-stance s e))) (passed (event Internal (suc i) 0 (x .phase) ∷ []) (set σ i (in-stance s 0))) .stations))
         [ true ↦ set-whole σ i s e l k w | false ↦ set-whole σ i s 0 l k w ]
 
     act-whole : (ps : List Path) → Fine n ps → (i : ℕ) → i < n → (m : Option Move) (σ : List StationState) → stance-at ms σ i .move ≡ m → Whole σ → Whole (act ms q ps i m σ .stations)

@@ -1,4 +1,5 @@
 // Nets keep the rules: theorems about the definitions of nets and of runs. Each function carries one on its contract.
+ghost use Rattle.stepping.specs.AnyMachine.{Reached-are-known, Machine-nets-step};
 ghost use Rattle.stepping.specs.ModelNets.{Model-nets-step};
 ghost use Rattle.stepping.specs.AutomatonNets.{Automaton-nets-step};
 
@@ -13,6 +14,21 @@ pub fn model_nets_step() -> u8
 // resets.
 pub fn automaton_nets_step() -> u8
     ensures { λ _. ⌜ Automaton-nets-step ⌝ }
+{
+    0
+}
+
+// Over any sound machine every stance that a net reaches is known.
+pub fn reached_are_known() -> u8
+    ensures { λ _. ⌜ Reached-are-known ⌝ }
+{
+    0
+}
+
+// Over any sound machine a net obeys exactly what the rules of its stations' meanings allow, and declines a call exactly
+// where a refusal's condition is the first of that call to hold.
+pub fn machine_nets_step() -> u8
+    ensures { λ _. ⌜ Machine-nets-step ⌝ }
 {
     0
 }
