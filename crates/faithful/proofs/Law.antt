@@ -57,41 +57,44 @@ module _ (s : ℕ) where
   edges-law : (n : ℕ) (es : List Edge) → All (Lawful-edge n) es → Divide s (joined edge-denominators es) → All (Edge-law s n) es
   edges-law n [] lawful h = tt
   edges-law n (e ∷ es) lawful h =
-      let r = all-parts (λ d. 1 ≤ d → d ∣ s) (edge-denominators e) (joined edge-denominators es) h in
-      ( record {
+      let r = all-parts (λ d. 1 ≤ d → d ∣ s) (edge-denominators e) (joined edge-denominators es) h in (
+        record {
           goal-here = lawful .0 .goal-here;
           low-fits = in-ticks s (e .window .low) (lawful .0 .low-fits) (r .0 .0);
           high-fits = high-law (e .window .high) (lawful .0 .high-fits) (r .0 .1);
-        }
-      , edges-law n es (lawful .1) (r .1) )
+        },
+        edges-law n es (lawful .1) (r .1),
+      )
 
   phases-law : (o : Order) (n : ℕ) (fs : List Phase) → All (Lawful-phase o n) fs → Divide s (joined phase-denominators fs) → All (Phase-law s n) fs
   phases-law o n [] lawful h = tt
   phases-law o n (f ∷ fs) lawful h =
       let r = all-parts (λ d. 1 ≤ d → d ∣ s) (phase-denominators f) (joined phase-denominators fs) h in
-      let q = all-parts (λ d. 1 ≤ d → d ∣ s) (life-denominators (lifetime-of f)) (joined edge-denominators (edges-of f)) (r .0) in
-      ( record {
+      let q = all-parts (λ d. 1 ≤ d → d ∣ s) (life-denominators (lifetime-of f)) (joined edge-denominators (edges-of f)) (r .0) in (
+        record {
           life-fits = life-law (lifetime-of f) (lawful .0 .life-fits) (q .0);
           next-here = lawful .0 .next-here;
           few-words = lawful .0 .few-words;
           edges-fit = edges-law n (edges-of f) (lawful .0 .edges-fit) (q .1);
-        }
-      , phases-law o n fs (lawful .1) (r .1) )
+        },
+        phases-law o n fs (lawful .1) (r .1),
+      )
 
 pub scale-some : (st : Station) → 1 ≤ station-scale st
 scale-some st = least-common (joined phase-denominators (st .phases)) .some
 
 stations-law : (o : Order) (L : ℕ) (sts : List Station) → All (Lawful-station o) sts → Divide L (map station-scale sts) → All (Station-law L) sts
 stations-law o L [] lawful h = tt
-stations-law o L (st ∷ sts) lawful h =
-    ( record {
-        some-scale = scale-some st;
-        divides = h .0 (scale-some st);
-        opening-here = lawful .0 .opening-here;
-        phases-fit = phases-law (station-scale st) o (length (st .phases)) (st .phases) (lawful .0 .phases-fit)
-          (least-common (joined phase-denominators (st .phases)) .common);
-      }
-    , stations-law o L sts (lawful .1) (h .1) )
+stations-law o L (st ∷ sts) lawful h = (
+  record {
+    some-scale = scale-some st;
+    divides = h .0 (scale-some st);
+    opening-here = lawful .0 .opening-here;
+    phases-fit = phases-law (station-scale st) o (length (st .phases)) (st .phases) (lawful .0 .phases-fit)
+        (least-common (joined phase-denominators (st .phases)) .common);
+  },
+  stations-law o L sts (lawful .1) (h .1),
+)
 
 -- of the whole net
 pub record Net-law (m : ModelNet) : Type 0 where

@@ -4,3 +4,6 @@ pub mod Law
 pub mod Locations
 pub mod Twins
 pub mod Printed
+pub mod Stations
+pub mod Nets
+pub mod Faithful

@@ -69,19 +69,19 @@ module _ (o : Order) (L : ℕ) (st : Station) (law : Station-law L st) where
       first (transition-fits p v clock) (λ x. x .goal) ms ≡ None →
       (es : List Edge) → All (Edge-law (station-scale st) (length (st .phases))) es →
       Both (Stands-for st) (first (edge-fits o life p v age) (λ x. stance-number (x .goal) 0) es)
-        (first (transition-fits p v clock) (λ x. x .goal) (map (print-edge o (station-scale st) (st .phases) life) es ++ ms))
+      (first (transition-fits p v clock) (λ x. x .goal) (map (print-edge o (station-scale st) (st .phases) life) es ++ ms))
   hears-same life lf ms p v age clock shows none [] laws = subst (Both (Stands-for st) None) (sym none) tt
   hears-same life lf ms p v age clock shows none (e ∷ es) laws =
       let same = fits-same o (station-scale st) (st .phases) life lf (length (st .phases)) e (laws .0) age clock shows p v in
       let rest = hears-same life lf ms p v age clock shows none es (laws .1) in
       subst
-        (λ b. Both (Stands-for st) (cond (edge-fits o life p v age e) (Some (stance-number (e .goal) 0)) (first (edge-fits o life p v age) (λ x. stance-number (x .goal) 0) es))
-          (cond b (Some (place-of (st .phases) (e .goal))) (first (transition-fits p v clock) (λ x. x .goal) (map (print-edge o (station-scale st) (st .phases) life) es ++ ms))))
-        same
-        (elim (edge-fits o life p v age e) as
-          (λ b. Both (Stands-for st) (cond b (Some (stance-number (e .goal) 0)) (first (edge-fits o life p v age) (λ x. stance-number (x .goal) 0) es))
-            (cond b (Some (place-of (st .phases) (e .goal))) (first (transition-fits p v clock) (λ x. x .goal) (map (print-edge o (station-scale st) (st .phases) life) es ++ ms))))
-          [ true ↦ quiet-stands st (e .goal) (laws .0 .goal-here) | false ↦ rest ])
+      (λ b. Both (Stands-for st) (cond (edge-fits o life p v age e) (Some (stance-number (e .goal) 0)) (first (edge-fits o life p v age) (λ x. stance-number (x .goal) 0) es))
+      (cond b (Some (place-of (st .phases) (e .goal))) (first (transition-fits p v clock) (λ x. x .goal) (map (print-edge o (station-scale st) (st .phases) life) es ++ ms))))
+      same
+      (elim (edge-fits o life p v age e) as
+      (λ b. Both (Stands-for st) (cond b (Some (stance-number (e .goal) 0)) (first (edge-fits o life p v age) (λ x. stance-number (x .goal) 0) es))
+      (cond b (Some (place-of (st .phases) (e .goal))) (first (transition-fits p v clock) (λ x. x .goal) (map (print-edge o (station-scale st) (st .phases) life) es ++ ms))))
+      [ true ↦ quiet-stands st (e .goal) (laws .0 .goal-here) | false ↦ rest ])
 
   -- past the lifetime no edge fits
   silent-past : (life : Option Fraction) → Life-in-ticks (station-scale st) life → (p v : ℕ) (age clock : Fraction) → Shows (station-scale st) age clock →
@@ -100,7 +100,7 @@ module _ (o : Order) (L : ℕ) (st : Station) (law : Station-law L st) where
   quiet-moves : (i : ℕ) → i < length (st .phases) → (n : ℕ) → n ≡ place-of (st .phases) i + 0 → (f : Phase) →
       words-of f ≡ words-of (phase-at (st .phases) i) → Next-here (length (st .phases)) f →
       Both (Same-move (Stands-for st)) (first-move i f)
-        (move-among (print-moves n (place-of (st .phases) (next-of f)) (life-ticks (station-scale st) (lifetime-of f)) (words-of f)))
+      (move-among (print-moves n (place-of (st .phases) (next-of f)) (life-ticks (station-scale st) (lifetime-of f)) (words-of f)))
   quiet-moves i l n en (endless edges) is nl = tt
   quiet-moves i l n en (lasting t [] next edges) is nl = (refl, quiet-stands st next nl)
   quiet-moves i l n en (lasting t (w ∷ []) next edges) is nl = (refl, quiet-stands st next nl)
@@ -113,14 +113,19 @@ module _ (o : Order) (L : ℕ) (st : Station) (law : Station-law L st) where
     where
       life : Option Fraction
       life = lifetime-of (phase-at (st .phases) i)
+
       age : Fraction
       age = fraction e (q * station-scale st)
+
       clock : Fraction
       clock = fraction e q
+
       shows : Shows (station-scale st) age clock
       shows = record { scale-some = law .some-scale; age-some = one-le-mul some (law .some-scale); clock-some = some; equal = omega arith }
+
       told : List Transition
       told = map (print-edge o (station-scale st) (st .phases) life) (edges-of (phase-at (st .phases) i)) ++ print-moves n (place-of (st .phases) (next-of (phase-at (st .phases) i))) (life-ticks (station-scale st) life) (words-of (phase-at (st .phases) i))
+
       go : (b : Bool) → within-bound (life-ticks (station-scale st) life) clock ≡ b →
           Both (Stands-for st) (first (edge-fits o life p v age) (λ x. stance-number (x .goal) 0) (edges-of (phase-at (st .phases) i))) (cond b (first (transition-fits p v clock) (λ x. x .goal) told) None)
       go true h =
@@ -137,9 +142,9 @@ module _ (o : Order) (L : ℕ) (st : Station) (law : Station-law L st) where
     busy = refl;
     lifetime = refl;
     move =
-      subst (Both (Same-move (Stands-for st)) (first-move i (phase-at (st .phases) i)))
-      (sym (move-past o (station-scale st) (st .phases) (lifetime-of (phase-at (st .phases) i)) (edges-of (phase-at (st .phases) i)) _))
-      (quiet-moves i l n en (phase-at (st .phases) i) refl (phase-law i l .next-here));
+        subst (Both (Same-move (Stands-for st)) (first-move i (phase-at (st .phases) i)))
+        (sym (move-past o (station-scale st) (st .phases) (lifetime-of (phase-at (st .phases) i)) (edges-of (phase-at (st .phases) i)) _))
+        (quiet-moves i l n en (phase-at (st .phases) i) refl (phase-law i l .next-here));
     hears = quiet-hears i n l;
   }
 
@@ -166,7 +171,7 @@ module _ (o : Order) (L : ℕ) (st : Station) (law : Station-law L st) where
 
   busy-moves : (i : ℕ) → i < length (st .phases) → (j n : ℕ) → n ≡ place-of (st .phases) i + suc j → (w : Word) (rest : List Word) → drop (suc j) (words-of (phase-at (st .phases) i)) ≡ w ∷ rest →
       Same-move (Stands-for st) (move-with i (suc j) (next-of (phase-at (st .phases) i)) (w ∷ rest))
-        (move-to (Some w) (print-sending n (place-of (st .phases) (next-of (phase-at (st .phases) i))) (from-on 0) w rest .goal))
+      (move-to (Some w) (print-sending n (place-of (st .phases) (next-of (phase-at (st .phases) i))) (from-on 0) w rest .goal))
   busy-moves i l j n en w [] d = (refl, quiet-stands st (next-of (phase-at (st .phases) i)) (busy-next i l (suc j) w [] d))
   busy-moves i l j n en w (x ∷ xs) d =
       let wd = drop-width (words-of (phase-at (st .phases) i)) (suc j) w (x ∷ xs) d in
@@ -188,11 +193,11 @@ module _ (o : Order) (L : ℕ) (st : Station) (law : Station-law L st) where
     busy = refl;
     lifetime = refl;
     move =
-      subst₂ (λ ys m. Both (Same-move (Stands-for st)) (Some (move-with i (suc j) (next-of (phase-at (st .phases) i)) ys)) m)
-      (sym d) (sym (sends-word n (place-of (st .phases) (next-of (phase-at (st .phases) i))) (from-on 0) w rest))
-      (busy-moves i l j n en w rest d);
+        subst₂ (λ ys m. Both (Same-move (Stands-for st)) (Some (move-with i (suc j) (next-of (phase-at (st .phases) i)) ys)) m)
+        (sym d) (sym (sends-word n (place-of (st .phases) (next-of (phase-at (st .phases) i))) (from-on 0) w rest))
+        (busy-moves i l j n en w rest d);
     hears = λ p v e q some.
-      subst (λ x. Both (Stands-for st) None x) (sym (sends-deaf p v (fraction e q) n (place-of (st .phases) (next-of (phase-at (st .phases) i))) (from-on 0) w rest)) tt;
+        subst (λ x. Both (Stands-for st) None x) (sym (sends-deaf p v (fraction e q) n (place-of (st .phases) (next-of (phase-at (st .phases) i))) (from-on 0) w rest)) tt;
   }
 
   pub alike-at : (i j : ℕ) → i < length (st .phases) → j < width (phase-at (st .phases) i) → (n : ℕ) → n ≡ place-of (st .phases) i + j →

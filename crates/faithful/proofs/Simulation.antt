@@ -73,12 +73,15 @@ module _ {X Y : Type 0} (D : Fraction → Type 0) (A : ℕ → Rules X) (B : ℕ
       (t .0, (unheard h way to l (suit h l .deaf (σ h) (τ h) _ _ (r h l) deaf) (t .1 .0), t .1 .1))
   delivered-too {from = from} {port = port} {v = v} {σ = σ} τ r (heard {p = p} {ps = ps} {es = es} h x way to l hears c) =
       let y = suit h l .hears (σ h) x (τ h) (p .«hearer_port») v (r h l) hears in
-      let t = delivered-too (put τ h (y .0)) (put-related n S σ τ r h x (y .0) (y .1 .1)) c in
-      ( t .0
-      , ( subst (λ k. Delivered B n o paths from port v (p ∷ ps) τ (event Arrival (suc h) (p .«hearer_port») v ∷ event External (suc h) 0 k ∷ es) (t .0))
-            (sym (suit h l .phase x (y .0) (y .1 .1)))
-            (heard h (y .0) way to l (y .1 .0) (t .1 .0))
-        , t .1 .1 ) )
+      let t = delivered-too (put τ h (y .0)) (put-related n S σ τ r h x (y .0) (y .1 .1)) c in (
+        t .0,
+        (
+          subst (λ k. Delivered B n o paths from port v (p ∷ ps) τ (event Arrival (suc h) (p .«hearer_port») v ∷ event External (suc h) 0 k ∷ es) (t .0))
+              (sym (suit h l .phase x (y .0) (y .1 .1)))
+              (heard h (y .0) way to l (y .1 .0) (t .1 .0)),
+          t .1 .1,
+        ),
+      )
 
   sent-too : {i : ℕ} {w : Option Word} {σ σ′ : ℕ → X} {es : List Event} → (τ : ℕ → Y) → All-paired σ τ →
       Sent A n o paths i w σ es σ′ → (τ′ : ℕ → Y) × (Sent B n o paths i w τ es τ′ × All-paired σ′ τ′)
@@ -98,21 +101,27 @@ module _ {X Y : Type 0} (D : Fraction → Type 0) (A : ℕ → Rules X) (B : ℕ
 
   pub does-too : {σ σ′ : ℕ → X} {a : Act} {es : List Event} → (τ : ℕ → Y) → All-paired σ τ → Fit D a → Does A n o paths σ a es σ′ →
       (τ′ : ℕ → Y) × (Does B n o paths τ a es τ′ × All-paired σ′ τ′)
-  does-too {σ = σ} τ r fit (delayed {d = d} good q may) =
-      ( (λ i. B i .later d (τ i))
-      , ( delayed good (quiet-too σ τ r q) (λ i l. sym (suit i l .may-wait d (σ i) (τ i) fit (q i l) (r i l)) ∙ may i l)
-        , (λ i l. suit i l .later d (σ i) (τ i) fit (may i l) (r i l)) ) )
+  does-too {σ = σ} τ r fit (delayed {d = d} good q may) = (
+    (λ i. B i .later d (τ i)),
+    (
+      delayed good (quiet-too σ τ r q) (λ i l. sym (suit i l .may-wait d (σ i) (τ i) fit (q i l) (r i l)) ∙ may i l),
+      (λ i l. suit i l .later d (σ i) (τ i) fit (may i l) (r i l)),
+    ),
+  )
   does-too {σ = σ} τ r fit (worded q none c) =
       let t = delivered-too τ r c in
       (t .0, (worded (quiet-too σ τ r q) (λ first. none-due-too σ τ r (none first)) (t .1 .0), t .1 .1))
   does-too {σ = σ} τ r fit (stepped {σ′ = σ′} {es = es} i w x turn move sent) =
       let l = turn-within σ i turn in
       let y = suit i l .moves (σ i) x (τ i) w (turn-ready σ i turn) (r i l) move in
-      let t = sent-too τ r sent in
-      ( put (t .0) i (y .0)
-      , ( subst (λ land. Does B n o paths τ step (es ++ land) (put (t .0) i (y .0))) (sym (landing-same i l x (y .0) (y .1 .1)))
-            (stepped i w (y .0) (turn-too σ τ i r turn) (y .1 .0) (t .1 .0))
-        , put-related n S σ′ (t .0) (t .1 .1) i x (y .0) (y .1 .1) ) )
+      let t = sent-too τ r sent in (
+        put (t .0) i (y .0),
+        (
+          subst (λ land. Does B n o paths τ step (es ++ land) (put (t .0) i (y .0))) (sym (landing-same i l x (y .0) (y .1 .1)))
+              (stepped i w (y .0) (turn-too σ τ i r turn) (y .1 .0) (t .1 .0)),
+          put-related n S σ′ (t .0) (t .1 .1) i x (y .0) (y .1 .1),
+        ),
+      )
 
   pub run-too : {σ σ′ : ℕ → X} {acts : List Act} {es : List Event} → (τ : ℕ → Y) → All-paired σ τ → All-fit D acts → Run A n o paths σ acts es σ′ →
       (τ′ : ℕ → Y) × (Run B n o paths τ acts es τ′ × All-paired σ′ τ′)

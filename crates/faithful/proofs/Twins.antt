@@ -199,7 +199,7 @@ module _ (R : ℕ → ℕ → ℕ → Type 0) (ms ns : Meaning) (twin : Twin R m
         let rest = deliver-agreed ps from port v in
         elim (leaves p from port) as
         (λ b. Agreed R (cond b (and-then (arrive ms q σ (p .hearer) (p .«hearer_port») v) (deliver ms q ps from port v)) (deliver ms q ps from port v σ))
-          (cond b (and-then (arrive ns q τ (p .hearer) (p .«hearer_port») v) (deliver ns q ps from port v)) (deliver ns q ps from port v τ)))
+        (cond b (and-then (arrive ns q τ (p .hearer) (p .«hearer_port») v) (deliver ns q ps from port v)) (deliver ns q ps from port v τ)))
         [ true ↦ then-agreed R _ _ (arrive-agreed σ τ r (p .hearer) (p .«hearer_port») v) _ _ rest | false ↦ rest σ τ r ]
 
     send-agreed : (ps : List Path) (i : ℕ) (w : Option Word) (σ τ : List StationState) → Related R σ τ → Agreed R (send ms q ps i w σ) (send ns q ps i w τ)
@@ -213,13 +213,14 @@ module _ (R : ℕ → ℕ → ℕ → Type 0) (ms ns : Meaning) (twin : Twin R m
     land-agreed i s t e d k same σ τ r =
         let a = twin .alike i s t k in
         subst (λ b. Agreed R (land i s e (meaning-at ms i .stance s) σ)
-          (cond b (passed [] (set τ i (in-stance t d))) (passed (event Internal (suc i) 0 (meaning-at ns i .stance t .phase) ∷ []) (set τ i (in-stance t 0)))))
+        (cond b (passed [] (set τ i (in-stance t d))) (passed (event Internal (suc i) 0 (meaning-at ns i .stance t .phase) ∷ []) (set τ i (in-stance t 0)))))
         (a .busy)
         (elim (meaning-at ms i .stance s .busy) as
-          (λ b. Agreed R (cond b (passed [] (set σ i (in-stance s e))) (passed (event Internal (suc i) 0 (meaning-at ms i .stance s .phase) ∷ []) (set σ i (in-stance s 0))))
-            (cond b (passed [] (set τ i (in-stance t d))) (passed (event Internal (suc i) 0 (meaning-at ns i .stance t .phase) ∷ []) (set τ i (in-stance t 0)))))
-          [ true ↦ record { same-news = refl; related = set-state R σ τ r i s t e d k same }
-          | false ↦ record { same-news = ap (λ n. event Internal (suc i) 0 n ∷ []) (a .phase); related = set-state R σ τ r i s t 0 0 k refl } ])
+        (λ b. Agreed R (cond b (passed [] (set σ i (in-stance s e))) (passed (event Internal (suc i) 0 (meaning-at ms i .stance s .phase) ∷ []) (set σ i (in-stance s 0))))
+        (cond b (passed [] (set τ i (in-stance t d))) (passed (event Internal (suc i) 0 (meaning-at ns i .stance t .phase) ∷ []) (set τ i (in-stance t 0))))) [
+          | true ↦ record { same-news = refl; related = set-state R σ τ r i s t e d k same }
+          | false ↦ record { same-news = ap (λ n. event Internal (suc i) 0 n ∷ []) (a .phase); related = set-state R σ τ r i s t 0 0 k refl }
+        ])
 
     act-agreed : (ps : List Path) (i : ℕ) (m k : Option Move) → Both (Same-move (R i)) m k → (σ τ : List StationState) → Related R σ τ →
         Agreed R (act ms q ps i m σ) (act ns q ps i k τ)
@@ -249,7 +250,7 @@ module _ (R : ℕ → ℕ → ℕ → Type 0) (ms ns : Meaning) (twin : Twin R m
 
     answer-agree : (ps : List Path) (c : Call) (s t : NetState) → Even R s t → Agree R (answer-call one ps c s) (answer-call other ps c t)
     answer-agree ps (wait d) s t e =
-                unless-agree R _ _ (ap number (busy-first s t e)) Busy s t e _ _
+        unless-agree R _ _ (ap number (busy-first s t e)) Busy s t e _ _
         (unless-agree R _ _ (ap number (past-first d s t e)) Lifetime s t e _ _
         (unless-agree R _ _ (ap (λ n. at-zero (ltb (10 ^ 15) (n + d))) (e .same-total)) Total s t e _ _
         (record {
@@ -257,17 +258,17 @@ module _ (R : ℕ → ℕ → ℕ → Type 0) (ms ns : Meaning) (twin : Twin R m
           even = record { related = waited-related d (s .stations) (t .stations) (e .related); same-total = ap (λ n. n + d) (e .same-total) };
         })))
     answer-agree ps (word port v slots) s t e =
-                unless-agree R _ _ (ap (λ n. bad-paths n ps) (twin .as-many)) Paths s t e _ _
+        unless-agree R _ _ (ap (λ n. bad-paths n ps) (twin .as-many)) Paths s t e _ _
         (unless-agree R (at-zero (ltb slots (room ps))) _ refl Room s t e _ _
         (unless-agree R _ _ (ap number (busy-first s t e)) Busy s t e _ _
         (unless-agree R _ _ (ap number (due-order o s t e)) Due s t e _ _
         (answered-agree s t e _ _ (deliver-agreed ps 0 port v (s .stations) (t .stations) (e .related))))))
     answer-agree ps (step slots) s t e =
-                unless-agree R _ _ (ap (λ n. bad-paths n ps) (twin .as-many)) Paths s t e _ _
+        unless-agree R _ _ (ap (λ n. bad-paths n ps) (twin .as-many)) Paths s t e _ _
         (unless-agree R (at-zero (ltb slots (room ps))) _ refl Room s t e _ _
         (subst (λ w. Agree R (step-of one ps s (orOther (lowest-busy one s) (lowest-due one s))) (step-of other ps t w))
-          (ap₂ orOther (busy-first s t e) (due-first s t e))
-          (step-agree ps s t e (orOther (lowest-busy one s) (lowest-due one s)))))
+        (ap₂ orOther (busy-first s t e) (due-first s t e))
+        (step-agree ps s t e (orOther (lowest-busy one s) (lowest-due one s)))))
 
     pub answers-agree : (ps : List Path) (cs : List Call) (s t : NetState) → Even R s t →
         (answers one ps cs s ≡ answers other ps cs t) × Even R (left-by one ps cs s) (left-by other ps cs t)
