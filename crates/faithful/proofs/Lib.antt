@@ -7,3 +7,4 @@ pub mod Printed
 pub mod Stations
 pub mod Nets
 pub mod Faithful
+pub mod PrintedLawful
