@@ -1,5 +1,5 @@
 -- What the tests of windows say of all moments.
-use Prim.Native.Nat.{ℕ, _+_, _*_, _≤_, _<_}
+use Prim.Native.Nat.{ℕ, _+_}
 use native.Mathlib.Nat.{mul-add, add-mul}
 use native.Mathlib.Omega.{arith}
 use mathlib.Core.Bool.{Bool, true, false, cond, not, _&&_}
@@ -9,11 +9,11 @@ use Rattle.std.proofs.shelf.Ways.{tells}
 use Rattle.std.specs.Orderings.{Decides}
 use Rattle.std.specs.declared.option.Option.{Option}
 use Rattle.std.specs.declared.option.Option.the-variants.{Some, None}
-use Rattle.records.specs.Fits.{High-fits, Window-fits}
+use Rattle.records.specs.Fits.{High-fits}
 use Rattle.semantics.specs.Times.{Fraction, fraction, Proper, HighEnd, Closed, Open, Absent, Window, Order, StepFirst, WordFirst, before, at-most, past-low, under-high, inside, counts, itself, whole}
 use Rattle.semantics.specs.Fits.{within-bound}
-use Rattle.spans.specs.Spans.{nearer, cut, lifetime-end, bound-end, counted, bounded, ends-early, no-time, starts-later, later-start, shared-window, shares-moment}
-use Rattle.spans.specs.Meaning.{Proper-life, Windows-count, Guards-count, Ends-proper, Moment-in, Moment-in-both, Windows-mean}
+use Rattle.spans.specs.Spans.{nearer, cut, lifetime-end, bound-end, ends-early, no-time, starts-later, later-start, shared-window, shares-moment}
+use Rattle.spans.specs.Meaning.{Proper-life, Windows-count, Guards-count, Ends-proper, Moment-in-both, Windows-mean}
 use Rattle.spans.proofs.Order.{le-le, le-lt, lt-le, at-most-at-most, at-most-before, before-at-most, not-at-most, not-before, weaker}
 
 and-left : (a b : Bool) → (a ≡ true → b ≡ true) → a ≡ (a && b)
