@@ -152,6 +152,9 @@ module _ {T : Type 0} (time : T → Fraction) where
       go (Open h) Absent p q = p
       go Absent Absent p q = q
 
+  pub cut-proper : (end : HighEnd T) (w : Window T) → High-fits Fine end → Ends-proper time w → Ends-proper time (cut time end w)
+  cut-proper end w pe pw = (pw .0, near-proper (w .high) end (pw .1) pe)
+
   shared-proper : (v w : Window T) → Ends-proper time v → Ends-proper time w → Ends-proper time (shared-window time v w)
   shared-proper v w pv pw = (start (starts-later time v w), near-proper (v .high) (w .high) (pv .1) (pw .1))
     where
@@ -219,7 +222,7 @@ module _ {T : Type 0} (time : T → Fraction) where
     shared-moment = shared-moment;
   }
 
-life-fits : (o : Order) (life : Option Fraction) → Proper-life life → High-fits Proper (lifetime-end o life)
+pub life-fits : (o : Order) (life : Option Fraction) → Proper-life life → High-fits Proper (lifetime-end o life)
 life-fits o None p = tt
 life-fits StepFirst (Some life) p = p
 life-fits WordFirst (Some life) p = p
@@ -236,7 +239,7 @@ windows-count o life w t pt pl pw =
     ∙ ap (λ x. inside itself w t && x) (life-counts o life t)
 
 -- a number of whole ticks is always a time
-whole-fits : (h : HighEnd ℕ) → High-fits (λ x. Proper (whole x)) h
+pub whole-fits : (h : HighEnd ℕ) → High-fits (λ x. Proper (whole x)) h
 whole-fits (Closed h) = omega arith
 whole-fits (Open h) = omega arith
 whole-fits Absent = tt
