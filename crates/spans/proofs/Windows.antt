@@ -239,7 +239,7 @@ windows-count o life w t pt pl pw =
     ∙ ap (λ x. inside itself w t && x) (life-counts o life t)
 
 -- a number of whole ticks is always a time
-pub whole-fits : (h : HighEnd ℕ) → High-fits (λ x. Proper (whole x)) h
+whole-fits : (h : HighEnd ℕ) → High-fits (λ x. Proper (whole x)) h
 whole-fits (Closed h) = omega arith
 whole-fits (Open h) = omega arith
 whole-fits Absent = tt
