@@ -1,14 +1,12 @@
 -- The least common multiple by the greatest common divisor; and with a limit.
-use Prim.Native.Nat.{ℕ, zero, suc, _*_, _/_, _%_, _≤_, _<_, _∣_, min, max}
-use native.Mathlib.Nat.{dvd-refl, dvd-mul-left, dvd-mul-right, dvd-mod-iff, dvd-of-mod-eq-zero, dvd-of-mul-dvd-mul-left, mul-dvd-mul-left, mul-dvd-mul-right, le-of-dvd, mod-lt, pos-of-dvd-of-pos, mul-div-cancel', div-mul-cancel, mul-comm, mul-right-comm, mul-le-mul-left, le-of-mul-le-mul-right, one-le-mul, mul-one, mul-zero, min-eq-left, min-eq-right, max-eq-left, max-eq-right}
+use Prim.Native.Nat.{ℕ, zero, suc, _*_, _/_, _%_, _≤_, _<_, _∣_}
+use native.Mathlib.Nat.{dvd-refl, dvd-mul-left, dvd-mul-right, dvd-mod-iff, dvd-of-mod-eq-zero, dvd-of-mul-dvd-mul-left, mul-dvd-mul-left, mul-dvd-mul-right, le-of-dvd, mod-lt, pos-of-dvd-of-pos, mul-div-cancel', div-mul-cancel, mul-comm, mul-right-comm, mul-le-mul-left, le-of-mul-le-mul-right, one-le-mul, mul-one, min-eq-right, max-eq-left}
 use native.Mathlib.Omega.{arith}
 use lib.Dec.{leb}
 use mathlib.Core.Bool.{Bool, true, false, cond}
 use mathlib.Core.List.{List, [], _∷_, _++_}
 use mathlib.Core.Path.{_≡_, refl, sym, _∙_, ap, ap₂, subst}
-use Rattle.std.proofs.shelf.Tests.{leb-true}
 use Rattle.std.proofs.shelf.Ways.{tells}
-use Rattle.std.specs.declared.option.Option.{Option}
 use Rattle.std.specs.declared.option.Option.the-variants.{Some, None}
 use Rattle.semantics.specs.Scales.{first-multiple, lcm, lcm-all}
 use Rattle.semantics.proofs.Lcm.{least-common}

@@ -13,5 +13,6 @@ pub record Scales-work : Type 0 where
   pub zero-counts-for-nothing : limited (lcm-all 1 (0 ∷ 4 ∷ 0 ∷ [])) ≡ Some 4
   pub large : limited (lcm-all 1 (999 ∷ 1000 ∷ [])) ≡ Some 999000
   pub too-large : limited (lcm-all 1 (999 ∷ 1000 ∷ 7 ∷ [])) ≡ None
-  pub exactly : limited (lcm-all 1 (64 ∷ 625 ∷ 1000 ∷ [])) ≡ Some 40000
+  pub common-factors : limited (lcm-all 1 (64 ∷ 625 ∷ 1000 ∷ [])) ≡ Some 40000
   pub at-limit : limited (lcm-all 1 (1000000 ∷ 64 ∷ [])) ≡ Some 1000000
+  pub just-over : limited (lcm-all 1 (1000001 ∷ [])) ≡ None

@@ -1,3 +1,4 @@
 mod Order
 pub mod Windows
 pub mod Taking
+pub mod Holding

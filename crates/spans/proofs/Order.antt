@@ -1,10 +1,9 @@
 -- The order of times by cross products.
-use Prim.Native.Nat.{ℕ, _+_, _*_, _≤_, _<_}
+use Prim.Native.Nat.{_*_}
 use native.Mathlib.Nat.{mul-right-comm, mul-le-mul-right, mul-lt-mul-of-pos-right, le-of-mul-le-mul-right, lt-of-mul-lt-mul-right}
 use native.Mathlib.Omega.{arith}
-use mathlib.Core.Bool.{Bool, true, false}
+use mathlib.Core.Bool.{true, false}
 use mathlib.Core.Path.{_≡_}
-use Rattle.std.proofs.shelf.Tests.{leb-true, le-leb}
 use Rattle.std.proofs.shelf.Ways.{tells}
 use Rattle.semantics.specs.Times.{Fraction, Proper, before, at-most}
 use Rattle.semantics.specs.Membership.{At-most, Before}

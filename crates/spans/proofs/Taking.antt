@@ -1,22 +1,20 @@
 -- What two hearings share, and what edges and transitions take.
-use Prim.Native.Nat.{ℕ, _*_, _≤_, _<_}
+use Prim.Native.Nat.{ℕ, _≤_, _<_}
 use native.Mathlib.Nat.{mul-one}
 use native.Mathlib.Omega.{arith}
-use lib.Dec.{leb, ltb, eqb}
-use mathlib.Core.Bool.{Bool, true, false, cond, not, _&&_}
+use lib.Dec.{leb, eqb}
+use mathlib.Core.Bool.{Bool, true, _&&_}
 use mathlib.Core.Path.{_≡_, refl, sym, ap, ap₂, _∙_}
 use mathlib.Core.Logic.{_⊎_, inl, inr}
-use Rattle.std.proofs.shelf.Tests.{eqb-true, eq-eqb, leb-true, le-leb, false≢true, cases-lt}
+use Rattle.std.proofs.shelf.Tests.{eqb-true, eq-eqb, cases-lt}
 use Rattle.std.proofs.shelf.Ways.{tells}
-use Rattle.std.specs.Orderings.{Decides}
 use Rattle.std.specs.declared.option.Option.{Option}
 use Rattle.std.specs.declared.option.Option.the-variants.{Some, None}
-use Rattle.semantics.specs.Times.{Fraction, Proper, HighEnd, Closed, Open, Absent, Order, StepFirst, WordFirst, inside, counts, itself, whole}
-use Rattle.semantics.specs.Trees.{Edge, Label, Silent, Hears, Sends, Transition}
+use Rattle.semantics.specs.Times.{Fraction, Proper, Closed, Open, Absent, StepFirst, WordFirst, inside, whole}
+use Rattle.semantics.specs.Trees.{Label, Silent, Hears, Sends, Transition}
 use Rattle.semantics.specs.Fits.{word-fits, label-fits, within-bound}
 use Rattle.spans.specs.Spans.{shares-moment}
-use Rattle.spans.specs.Hearings.{Hearing, heard, share-value, takes, meet}
-use Rattle.spans.specs.Meaning.{Ends-proper, Moment-in-both}
+use Rattle.spans.specs.Hearings.{heard, share-value, meet}
 use Rattle.spans.specs.Taking.{Taken-by-both, Meet-exactly, taken, Takes-as-cut, Cut-as-printed}
 use Rattle.spans.proofs.Windows.{and-assoc, and-first, and-second, windows-mean, windows-count, guards-count}
 

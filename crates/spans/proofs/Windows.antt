@@ -1,5 +1,5 @@
 -- What the tests of windows say of all moments.
-use Prim.Native.Nat.{ℕ, _+_, _*_, _≤_, _<_}
+use Prim.Native.Nat.{ℕ, _+_}
 use native.Mathlib.Nat.{mul-add, add-mul}
 use native.Mathlib.Omega.{arith}
 use mathlib.Core.Bool.{Bool, true, false, cond, not, _&&_}
@@ -9,11 +9,11 @@ use Rattle.std.proofs.shelf.Ways.{tells}
 use Rattle.std.specs.Orderings.{Decides}
 use Rattle.std.specs.declared.option.Option.{Option}
 use Rattle.std.specs.declared.option.Option.the-variants.{Some, None}
-use Rattle.records.specs.Fits.{High-fits, Window-fits}
+use Rattle.records.specs.Fits.{High-fits}
 use Rattle.semantics.specs.Times.{Fraction, fraction, Proper, HighEnd, Closed, Open, Absent, Window, Order, StepFirst, WordFirst, before, at-most, past-low, under-high, inside, counts, itself, whole}
 use Rattle.semantics.specs.Fits.{within-bound}
-use Rattle.spans.specs.Spans.{nearer, cut, lifetime-end, bound-end, counted, bounded, ends-early, no-time, starts-later, later-start, shared-window, shares-moment}
-use Rattle.spans.specs.Meaning.{Proper-life, Windows-count, Guards-count, Ends-proper, Moment-in, Moment-in-both, Windows-mean}
+use Rattle.spans.specs.Spans.{nearer, cut, lifetime-end, bound-end, ends-early, no-time, starts-later, later-start, shared-window, shares-moment}
+use Rattle.spans.specs.Meaning.{Proper-life, Windows-count, Guards-count, Ends-proper, Moment-in-both, Windows-mean}
 use Rattle.spans.proofs.Order.{le-le, le-lt, lt-le, at-most-at-most, at-most-before, before-at-most, not-at-most, not-before, weaker}
 
 and-left : (a b : Bool) → (a ≡ true → b ≡ true) → a ≡ (a && b)
@@ -152,6 +152,9 @@ module _ {T : Type 0} (time : T → Fraction) where
       go (Open h) Absent p q = p
       go Absent Absent p q = q
 
+  pub cut-proper : (end : HighEnd T) (w : Window T) → High-fits Fine end → Ends-proper time w → Ends-proper time (cut time end w)
+  cut-proper end w pe pw = (pw .0, near-proper (w .high) end (pw .1) pe)
+
   shared-proper : (v w : Window T) → Ends-proper time v → Ends-proper time w → Ends-proper time (shared-window time v w)
   shared-proper v w pv pw = (start (starts-later time v w), near-proper (v .high) (w .high) (pv .1) (pw .1))
     where
@@ -219,7 +222,7 @@ module _ {T : Type 0} (time : T → Fraction) where
     shared-moment = shared-moment;
   }
 
-life-fits : (o : Order) (life : Option Fraction) → Proper-life life → High-fits Proper (lifetime-end o life)
+pub life-fits : (o : Order) (life : Option Fraction) → Proper-life life → High-fits Proper (lifetime-end o life)
 life-fits o None p = tt
 life-fits StepFirst (Some life) p = p
 life-fits WordFirst (Some life) p = p

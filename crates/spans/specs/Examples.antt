@@ -7,6 +7,9 @@ use Rattle.semantics.specs.Times.{Fraction, fraction, HighEnd, Closed, Open, Ab
 use Rattle.spans.specs.Spans.{counted, bounded, no-time, shares-moment}
 use Rattle.spans.specs.Hearings.{hearing, meet}
 
+abbrev pub seconds : ℕ → Fraction
+seconds n = fraction n 1
+
 -- windows that let their low end in, and one that leaves it out
 abbrev pub from : {T : Type 0} → T → HighEnd T → Window T
 from low high = record { low = low; «low_open» = false; high = high }
@@ -14,14 +17,15 @@ from low high = record { low = low; «low_open» = false; high = high }
 abbrev pub past : {T : Type 0} → T → HighEnd T → Window T
 past low high = record { low = low; «low_open» = true; high = high }
 
-abbrev pub seconds : ℕ → Fraction
-seconds n = fraction n 1
+-- from 1 to 5 seconds, both let in
+abbrev pub one-to-five : Window Fraction
+one-to-five = from (seconds 1) (Closed (seconds 5))
 
 pub record Windows-work : Type 0 where
-  -- lifetime 3 and the window from 1 to 5, both ends in
-  pub cut-step-first : counted itself StepFirst (Some (seconds 3)) (from (seconds 1) (Closed (seconds 5))) ≡ from (seconds 1) (Open (seconds 3))
-  pub cut-word-first : counted itself WordFirst (Some (seconds 3)) (from (seconds 1) (Closed (seconds 5))) ≡ from (seconds 1) (Closed (seconds 3))
-  pub not-cut : counted itself StepFirst None (from (seconds 1) (Closed (seconds 5))) ≡ from (seconds 1) (Closed (seconds 5))
+  -- at lifetime 3, and in an endless phase
+  pub cut-step-first : counted itself StepFirst (Some (seconds 3)) one-to-five ≡ from (seconds 1) (Open (seconds 3))
+  pub cut-word-first : counted itself WordFirst (Some (seconds 3)) one-to-five ≡ from (seconds 1) (Closed (seconds 3))
+  pub not-cut : counted itself StepFirst None one-to-five ≡ one-to-five
   -- an open end at the lifetime stays open under word first
   pub open-stays : counted itself WordFirst (Some (fraction 6 2)) (from (seconds 1) (Open (seconds 3))) ≡ from (seconds 1) (Open (seconds 3))
   -- low end 3 at lifetime 3

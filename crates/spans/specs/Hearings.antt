@@ -42,4 +42,5 @@ module _ {T : Type 0} (time : T → Fraction) where
   -- port, value and moment can be shared
   abbrev pub meet : Hearing T → Hearing T → Bool
   meet x y =
-      eqb (x .port) (y .port) && (share-value (x .lowest) (x .highest) (y .lowest) (y .highest) && shares-moment time (x .window) (y .window))
+      eqb (x .port) (y .port)
+      && (share-value (x .lowest) (x .highest) (y .lowest) (y .highest) && shares-moment time (x .window) (y .window))

@@ -2,4 +2,5 @@ pub mod Spans
 pub mod Hearings
 pub mod Meaning
 pub mod Taking
+pub mod Holding
 pub mod Examples

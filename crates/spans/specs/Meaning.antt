@@ -1,6 +1,6 @@
 -- What the tests of windows say of all moments. A moment is any fraction that is a time, not only a whole tick.
 use Prim.Native.Nat.{ℕ}
-use mathlib.Core.Bool.{Bool, true, false, _&&_}
+use mathlib.Core.Bool.{true, false, _&&_}
 use mathlib.Core.Path.{_≡_}
 use Rattle.std.specs.Orderings.{Decides}
 use Rattle.std.specs.declared.option.Option.{Option}
@@ -42,7 +42,8 @@ module _ {T : Type 0} (time : T → Fraction) where
 
   pub record Windows-mean : Type 0 where
     -- a window that is said to hold no time has no moment, and any other has one
-    pub none-inside : (w : Window T) → Ends-proper w → no-time time w ≡ true → (t : Fraction) → Proper t → inside time w t ≡ false
+    pub none-inside : (w : Window T) → Ends-proper w → no-time time w ≡ true →
+        (t : Fraction) → Proper t → inside time w t ≡ false
     pub one-inside : (w : Window T) → Ends-proper w → no-time time w ≡ false → Moment-in w
     -- the moments of the shared window are those of both
     pub sharing : (v w : Window T) (t : Fraction) → Proper t → Ends-proper v → Ends-proper w →

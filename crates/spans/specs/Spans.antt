@@ -1,6 +1,6 @@
 -- Spans of time: the window that counts, whether a window holds no time, and what two windows share. Ends are given in
 -- any kind of time; `time` says which fraction one is.
-use mathlib.Core.Bool.{Bool, true, false, cond, not, _&&_}
+use mathlib.Core.Bool.{Bool, false, cond, not, _&&_}
 use Rattle.std.specs.declared.option.Option.{Option}
 use Rattle.std.specs.declared.option.Option.the-variants.{Some, None}
 use Rattle.semantics.specs.Times.{Fraction, HighEnd, Closed, Open, Absent, Window, Order, StepFirst, WordFirst, before, at-most}

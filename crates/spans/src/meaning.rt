@@ -2,6 +2,7 @@
 ghost use Rattle.semantics.specs.Times.{itself, whole};
 ghost use Rattle.spans.specs.Meaning.{Windows-count, Guards-count, Windows-mean};
 ghost use Rattle.spans.specs.Taking.{Meet-exactly, Takes-as-cut, Cut-as-printed};
+ghost use Rattle.spans.specs.Holding.{Holds-exactly};
 ghost use Rattle.spans.specs.Examples.{Windows-work};
 
 // The moments of a cut window are the written one's that count, and those of a cut guard the
@@ -29,6 +30,14 @@ pub fn hearings_meet() -> u8
     ensures guards { λ _. ⌜ Meet-exactly whole ⌝ }
     ensures taking { λ _. ⌜ Takes-as-cut ⌝ }
     ensures printed { λ _. ⌜ Cut-as-printed ⌝ }
+{
+    0
+}
+
+// Cut windows and guards hold a time, and two edges of a phase share a word, exactly if there is a
+// moment as lawful trees ask for one.
+pub fn cuts_hold() -> u8
+    ensures { λ _. ⌜ Holds-exactly ⌝ }
 {
     0
 }

@@ -9,6 +9,7 @@ returns c = record {
   zero-counts-for-nothing = refl;
   large = refl;
   too-large = refl;
-  exactly = refl;
+  common-factors = refl;
   at-limit = refl;
+  just-over = refl;
 }
