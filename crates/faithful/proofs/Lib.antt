@@ -8,3 +8,4 @@ pub mod Stations
 pub mod Nets
 pub mod Faithful
 pub mod PrintedLawful
+pub mod Mixed
