@@ -9,3 +9,4 @@ pub mod Nets
 pub mod Faithful
 pub mod PrintedLawful
 pub mod Mixed
+pub mod MixedCalls

@@ -44,7 +44,7 @@ both-weaker R Q f None (Some b) h = absurd h
 both-weaker R Q f (Some a) None h = absurd h
 both-weaker R Q f (Some a) (Some b) h = f a b h
 
-alike-weaker : (R Q : ℕ → ℕ → Type 0) → ((s t : ℕ) → R s t → Q s t) → (x y : Stance) → Alike R x y → Alike Q x y
+pub alike-weaker : (R Q : ℕ → ℕ → Type 0) → ((s t : ℕ) → R s t → Q s t) → (x y : Stance) → Alike R x y → Alike Q x y
 alike-weaker R Q f x y a = record {
   phase = a .phase;
   sent = a .sent;
@@ -55,7 +55,7 @@ alike-weaker R Q f x y a = record {
 }
 
 -- the scales of both machines are the stations' scales
-model-scales : (o : Order) (sts : List Station) → map (λ m. m .scale) (map (station-meaning o) sts) ≡ map station-scale sts
+pub model-scales : (o : Order) (sts : List Station) → map (λ m. m .scale) (map (station-meaning o) sts) ≡ map station-scale sts
 model-scales o [] = refl
 model-scales o (st ∷ sts) = ap (λ r. station-scale st ∷ r) (model-scales o sts)
 
@@ -95,7 +95,7 @@ module _ (m : ModelNet) (lawful : LawfulModel m) where
   pub as-many-there : length other-side ≡ length (m .stations)
   as-many-there = length-map (print m .automata) automaton-meaning ∙ as-many-automata
 
-  here-at : (i : ℕ) → i < length (m .stations) → meaning-at one-side i ≡ station-meaning (m .order) (station-at m i)
+  pub here-at : (i : ℕ) → i < length (m .stations) → meaning-at one-side i ≡ station-meaning (m .order) (station-at m i)
   here-at i l = map-at (station-meaning (m .order)) blank-station blank-meaning (m .stations) i l
 
   there-at : (i : ℕ) → i < length (m .stations) → meaning-at other-side i ≡ automaton-meaning (print-station (m .order) (station-at m i))
@@ -103,7 +103,7 @@ module _ (m : ModelNet) (lawful : LawfulModel m) where
       map-at automaton-meaning blank-automaton blank-meaning (print m .automata) i (subst (λ n. i < n) (sym as-many-automata) l)
       ∙ ap automaton-meaning (printed-at i l)
 
-  here-past : (i : ℕ) → length (m .stations) ≤ i → meaning-at one-side i ≡ blank-meaning
+  pub here-past : (i : ℕ) → length (m .stations) ≤ i → meaning-at one-side i ≡ blank-meaning
   here-past i l = map-past (station-meaning (m .order)) blank-meaning (m .stations) i l
 
   there-past : (i : ℕ) → length (m .stations) ≤ i → meaning-at other-side i ≡ blank-meaning
@@ -138,6 +138,11 @@ module _ (m : ModelNet) (lawful : LawfulModel m) where
 
   pub factor-at : (i : ℕ) → i < length (m .stations) → 1 ≤ model-scale m / station-scale (station-at m i)
   factor-at i l = factor-some (model-scale m) (station-scale (station-at m i)) (law .some-scale) (station-law i l .divides)
+
+  pub here-factor : (i : ℕ) → i < length one-side → 1 ≤ factor (net-scale one-side) (meaning-at one-side i)
+  here-factor i l =
+      let k : i < length (m .stations) = subst (λ n. i < n) as-many-here l in
+      subst₂ (λ (L : ℕ) (x : StationMeaning). 1 ≤ L / x .scale) (sym here-scale) (sym (here-at i k)) (factor-at i k)
 
   pub net-twin : Twin Stand (geared one-side) (geared other-side)
   net-twin =

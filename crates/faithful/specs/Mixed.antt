@@ -1,11 +1,11 @@
 -- Nets in which each station goes by its own rules: some by the model's, the others by those of their printed automata.
 use Prim.Native.Nat.{ℕ, suc, _<_}
 use lib.ListN.{length}
-use mathlib.Core.Bool.{Bool}
-use mathlib.Core.List.{List}
+use mathlib.Core.Bool.{Bool, cond}
+use mathlib.Core.List.{List, [], _∷_}
 use mathlib.Core.Logic.{_⊎_, inl, inr}
 use mathlib.Core.Path.{_≡_}
-use Rattle.semantics.specs.Times.{Proper, over}
+use Rattle.semantics.specs.Times.{Order, Proper, over}
 use Rattle.semantics.specs.Trees.{ModelNet, Station, station-at, automaton-at, Automaton, location-at}
 use Rattle.semantics.specs.Scales.{station-scale}
 use Rattle.semantics.specs.Events.{Event}
@@ -14,8 +14,12 @@ use Rattle.semantics.specs.ModelRules.{ModelState, ModelRun}
 use Rattle.semantics.specs.ModelRules as model
 use Rattle.semantics.specs.AutomatonRules.{AutomatonState}
 use Rattle.semantics.specs.AutomatonRules as automata
-use Rattle.semantics.specs.Print.{print}
-use Rattle.semantics.specs.Faithful.{Is-time}
+use Rattle.semantics.specs.Print.{print, print-station}
+use Rattle.semantics.specs.Machine.{Meaning}
+use Rattle.semantics.specs.Meanings.{station-meaning, automaton-meaning}
+use Rattle.semantics.specs.Calls.{Made, make, Call, answers, left-by, telling}
+use Rattle.std.specs.declared.result.Result.the-variants.{Ok}
+use Rattle.semantics.specs.Faithful.{Is-time, model-made}
 use Rattle.semantics.specs.LawfulModels.{LawfulModel}
 
 -- A state of either kind goes by the rules of its kind, and stays of it.
@@ -82,3 +86,25 @@ pub record SameMixedRuns (m : ModelNet) (σ : ℕ → ModelState) (ζ : ℕ → 
 abbrev pub Mixed-nets-run-alike : Type 0
 Mixed-nets-run-alike = (m : ModelNet) → LawfulModel m → (σ : ℕ → ModelState) (ζ : ℕ → MixedState) → Stand-in m σ ζ →
     (acts : List Act) (es : List Event) → SameMixedRuns m σ ζ acts es
+
+-- The machine in which the stations that `replaced` picks, by their places from i on, are their printed automata.
+abbrev pub mixed-from : (ℕ → Bool) → Order → ℕ → List Station → Meaning
+mixed-from replaced o i [] = []
+mixed-from replaced o i (st ∷ sts) =
+    cond (replaced i) (automaton-meaning (print-station o st)) (station-meaning o st) ∷ mixed-from replaced o (suc i) sts
+
+abbrev pub mixed-made : (ℕ → Bool) → ModelNet → ℕ → ℕ → Made
+mixed-made replaced m q slots = make (mixed-from replaced (m .order) 0 (m .stations)) (m .paths) (m .order) q slots
+
+-- Its net is made, answers and tells as the model's does.
+pub record Answers-alike (replaced : ℕ → Bool) (m : ModelNet) : Type 0 where
+  pub same-making : (q slots : ℕ) → model-made m q slots .answer ≡ mixed-made replaced m q slots .answer
+  pub same-answers : (q slots : ℕ) (es : List Event) → model-made m q slots .answer ≡ Ok es → (calls : List Call) →
+      answers (model-made m q slots .net) (m .paths) calls (model-made m q slots .state)
+      ≡ answers (mixed-made replaced m q slots .net) (m .paths) calls (mixed-made replaced m q slots .state)
+  pub same-tellings : (q slots : ℕ) (es : List Event) → model-made m q slots .answer ≡ Ok es → (calls : List Call) (k : ℕ) →
+      telling (model-made m q slots .net) (left-by (model-made m q slots .net) (m .paths) calls (model-made m q slots .state)) k
+      ≡ telling (mixed-made replaced m q slots .net) (left-by (mixed-made replaced m q slots .net) (m .paths) calls (mixed-made replaced m q slots .state)) k
+
+abbrev pub Mixed-nets-answer-alike : Type 0
+Mixed-nets-answer-alike = (m : ModelNet) → LawfulModel m → (replaced : ℕ → Bool) → Answers-alike replaced m
