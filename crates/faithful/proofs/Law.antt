@@ -37,7 +37,7 @@ pub record Station-law (L : ℕ) (st : Station) : Type 0 where
 abbrev Divide : ℕ → List ℕ → Type 0
 Divide s ds = All (λ d. 1 ≤ d → d ∣ s) ds
 
-all-parts : {A : Type 0} (P : A → Type 0) (xs ys : List A) → All P (xs ++ ys) → All P xs × All P ys
+pub all-parts : {A : Type 0} (P : A → Type 0) (xs ys : List A) → All P (xs ++ ys) → All P xs × All P ys
 all-parts P [] ys h = (tt, h)
 all-parts P (x ∷ xs) ys h = let r = all-parts P xs ys (h .1) in ((h .0, r .0), r .1)
 

@@ -28,6 +28,11 @@ drop-some [] j l = absurd (omega arith)
 drop-some (w ∷ ws) zero l = (w, ws, refl)
 drop-some (w ∷ ws) (suc j) l = drop-some ws j (omega arith)
 
+-- a location with k words sent, k not 0, has a word to send
+pub more-words : (ws : List Word) (k : ℕ) → suc k < locations-for ws → suc k < length ws
+more-words [] k h = absurd (omega arith)
+more-words (w ∷ ws) k h = h
+
 -- the location with the word w to send, and the words `rest` after it
 abbrev pub busy-location : ℕ → ℕ → ℕ → ℕ → Word → List Word → Location
 busy-location i next here sent w rest = record { phase = suc i; sent = sent; committed = true; bound = None; transitions = print-sending here next (from-on 0) w rest ∷ [] }

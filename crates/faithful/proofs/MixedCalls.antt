@@ -107,8 +107,8 @@ module _ (m : ModelNet) (lawful : LawfulModel m) (replaced : ℕ → Bool) where
   twin = record {
     as-many = as-many-here m lawful ∙ sym (mixed-long replaced (m .order) (m .stations) 0);
     openings = λ i l.
-      subst₂ (λ x y. Chosen (replaced i) (station-at m i) (x .opening) (y .opening)) (sym (here-at m lawful i l)) (sym (there-at i l))
-      (chosen-opening (m .order) (model-scale m) (station-at m i) (station-law m lawful i l) (replaced i));
+        subst₂ (λ x y. Chosen (replaced i) (station-at m i) (x .opening) (y .opening)) (sym (here-at m lawful i l)) (sym (there-at i l))
+        (chosen-opening (m .order) (model-scale m) (station-at m i) (station-law m lawful i l) (replaced i));
     alike = λ i s t h. alike i s t (cases-lt i n) h;
   }
 

@@ -147,9 +147,7 @@ module _ (m : ModelNet) (lawful : LawfulModel m) where
   pub net-twin : Twin Stand (geared one-side) (geared other-side)
   net-twin =
       geared-twin Stand one-side other-side printed-twin same-scales
-      (λ i l.
-      let k : i < length (m .stations) = subst (λ n. i < n) as-many-here l in
-      subst₂ (λ (L : ℕ) (x : StationMeaning). 1 ≤ L / x .scale) (sym here-scale) (sym (here-at i k)) (factor-at i k))
+      here-factor
       (λ i s t past here. absurd (let k = as-many-here in omega arith))
 
   -- a station of the net on either side, but for its gearing

@@ -23,7 +23,7 @@ use Rattle.semantics.specs.LawfulModels.{Next-here}
 use Rattle.faithful.proofs.Twins.{Both, Same-move, Alike}
 use Rattle.faithful.proofs.Ticks.{Life-in-ticks, Shows, window-same, within-life}
 use Rattle.faithful.proofs.Law.{Edge-law, Phase-law, Station-law}
-use Rattle.faithful.proofs.Locations.{width, drop-some, busy-location, quiet-at, busy-at}
+use Rattle.faithful.proofs.Locations.{width, drop-some, more-words, busy-location, quiet-at, busy-at}
 
 -- the stance s of the model is the location t
 pub record Stands-for (st : Station) (s t : ℕ) : Type 0 where
@@ -204,14 +204,10 @@ module _ (o : Order) (L : ℕ) (st : Station) (law : Station-law L st) where
       Alike (Stands-for st) (model-stance o (station-scale st) (st .phases) i j) (location-stance (location-at (print-station o st) n))
   alike-at i zero l m n en = subst (λ x. Alike (Stands-for st) (model-stance o (station-scale st) (st .phases) i 0) (location-stance x)) (sym (quiet-at o st i l n en)) (quiet-alike i n l en)
   alike-at i (suc j) l m n en =
-      let more : suc j < length (words-of (phase-at (st .phases) i)) = within (words-of (phase-at (st .phases) i)) j m in
+      let more : suc j < length (words-of (phase-at (st .phases) i)) = more-words (words-of (phase-at (st .phases) i)) j m in
       let d = drop-some (words-of (phase-at (st .phases) i)) (suc j) more in
       subst (λ x. Alike (Stands-for st) (model-stance o (station-scale st) (st .phases) i (suc j)) (location-stance x)) (sym (busy-at o st i l j n (d .0) (d .1) m (d .2) en))
       (busy-alike i l j n en (d .0) (d .1) (d .2))
-    where
-      within : (ws : List Word) (k : ℕ) → suc k < locations-for ws → suc k < length ws
-      within [] k h = absurd (omega arith)
-      within (w ∷ ws) k h = h
 
   pub stands-numbers : (s t : ℕ) (stands : Stands-for st s t) → (stands .i ≡ phase-of s) × (stands .j ≡ sent-of s)
   stands-numbers s t stands =

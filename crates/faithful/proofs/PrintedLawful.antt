@@ -25,7 +25,7 @@ use Rattle.semantics.specs.LawfulAutomata.{is-move, Lawful-label, Lawful-transi
 use Rattle.faithful.specs.Theorems.{Printed-is-lawful}
 use Rattle.faithful.proofs.Ticks.{In-ticks, Life-in-ticks, High-in-ticks, Shows, window-same, within-life}
 use Rattle.faithful.proofs.Law.{Edge-law, Phase-law, Station-law, Net-law, net-law}
-use Rattle.faithful.proofs.Locations.{width, listed, drop-some, busy-location, quiet-at, busy-at, split-place, all-long}
+use Rattle.faithful.proofs.Locations.{width, listed, drop-some, more-words, busy-location, quiet-at, busy-at, split-place, all-long}
 use Rattle.faithful.proofs.Printed.{fits-same, phase-law, words-next, drop-words, drop-width, width-some, width-few}
 use Rattle.faithful.proofs.Stations.{moves-deaf}
 use Rattle.faithful.proofs.Nets.{printed-scale}
@@ -318,14 +318,10 @@ module _ (o : Order) (L : ℕ) (st : Station) (lawful : Lawful-station o st) (la
   location-lawful : (n : ℕ) → n < many → Lawful-location pa (location-at pa n)
   location-lawful n l = let r = split-place o s (st .phases) (st .phases) 0 0 n l in go (r .0) (r .1) (r .2) (r .3) (r .4)
     where
-      within : (ws : List Word) (k : ℕ) → suc k < locations-for ws → suc k < length ws
-      within [] k h = absurd (omega arith)
-      within (w ∷ ws) k h = h
-
       go : (i j : ℕ) → i < length (st .phases) → j < width (phase-at (st .phases) i) → n ≡ place-of (st .phases) i + j → Lawful-location pa (location-at pa n)
       go i zero li lj e = subst (Lawful-location pa) (sym (quiet-at o st i li n e)) (quiet-lawful i n li e)
       go i (suc j) li lj e =
-          let d = drop-some (words-of (phase-at (st .phases) i)) (suc j) (within (words-of (phase-at (st .phases) i)) j lj) in
+          let d = drop-some (words-of (phase-at (st .phases) i)) (suc j) (more-words (words-of (phase-at (st .phases) i)) j lj) in
           subst (Lawful-location pa) (sym (busy-at o st i li j n (d .0) (d .1) lj (d .2) e)) (busy-lawful i j n li lj (d .0) (d .1) (d .2) e)
 
   station-lawful : Lawful-automaton pa

@@ -25,7 +25,7 @@ use Rattle.semantics.proofs.Options.{some-not-none}
 use Rattle.faithful.proofs.Simulation.{Follows}
 use Rattle.faithful.proofs.Ticks.{Life-in-ticks, Shows, at-most-same, at-same}
 use Rattle.faithful.proofs.Law.{Edge-law, Phase-law, Station-law}
-use Rattle.faithful.proofs.Locations.{width, drop-some, busy-location, quiet-at, busy-at}
+use Rattle.faithful.proofs.Locations.{width, drop-some, more-words, busy-location, quiet-at, busy-at}
 use Rattle.faithful.proofs.Printed.{fits-same, drop-words, drop-width, phase-law, width-some}
 
 -- the clock goes on showing the age over a delay
@@ -87,15 +87,11 @@ module _ (o : Order) (L : ℕ) (st : Station) (some : 1 ≤ L) (factor : 1 ≤ L
   view : (x : ModelState) (y : AutomatonState) → Matches st x y → View x y
   view x y m = go (x .sent) refl
     where
-      within : (ws : List Word) (k : ℕ) → suc k < locations-for ws → suc k < length ws
-      within [] k h = absurd (omega arith)
-      within (w ∷ ws) k h = h
-
       go : (k : ℕ) → x .sent ≡ k → View x y
       go zero e = at-rest e (quiet-at o st (x .phase) (m .here) (y .location) (m .location ∙ ap (λ n. place-of (st .phases) (x .phase) + n) e))
       go (suc j) e =
           let wide : suc j < width (phase-at (st .phases) (x .phase)) = subst (λ n. n < width (phase-at (st .phases) (x .phase))) e (m .fewer) in
-          let d = drop-some (words-of (phase-at (st .phases) (x .phase))) (suc j) (within (words-of (phase-at (st .phases) (x .phase))) j wide) in
+          let d = drop-some (words-of (phase-at (st .phases) (x .phase))) (suc j) (more-words (words-of (phase-at (st .phases) (x .phase))) j wide) in
           at-work j (d .0) (d .1) e (ap (λ n. drop n (words-of (phase-at (st .phases) (x .phase)))) e ∙ d .2)
           (busy-at o st (x .phase) (m .here) j (y .location) (d .0) (d .1) wide (d .2) (m .location ∙ ap (λ n. place-of (st .phases) (x .phase) + n) e) ∙
           ap (λ n. busy-location (x .phase) (place-of (st .phases) (next-of (phase-at (st .phases) (x .phase)))) (y .location) n (d .0) (d .1)) (sym e))
