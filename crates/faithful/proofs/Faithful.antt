@@ -15,20 +15,20 @@ use Rattle.semantics.specs.Events.{Event}
 use Rattle.semantics.specs.Net.{NetState, state-at}
 use Rattle.semantics.specs.Calls.{Call, telling}
 use Rattle.semantics.specs.Runs.{Act, Rules, Run}
-use Rattle.semantics.specs.ModelRules.{ModelState, model-rules}
+use Rattle.semantics.specs.ModelRules.{ModelState}
 use Rattle.semantics.specs.ModelRules as model
 use Rattle.semantics.specs.AutomatonRules.{AutomatonState, automaton-rules}
 use Rattle.semantics.specs.AutomatonRules as automata
 use Rattle.semantics.specs.Print.{place-of, print, print-station}
 use Rattle.semantics.specs.LawfulModels.{LawfulModel}
-use Rattle.semantics.specs.Faithful.{Faithful, Agrees, model-made, automata-made, model-start, automaton-start, Is-time, Model-stands, Automata-stand, Correspond, SameRuns}
+use Rattle.semantics.specs.Faithful.{Agrees, model-made, automata-made, model-start, automaton-start, Is-time, Model-stands, Automata-stand, Correspond, SameRuns}
 use Rattle.faithful.specs.Theorems.{Printing-is-faithful}
 use Rattle.faithful.proofs.Simulation.{Follows, run-too, run-proper}
 use Rattle.faithful.proofs.Twins.{Even, even-openings, same-telling, answers-agree, make-same}
 use Rattle.faithful.proofs.Ticks.{Shows}
 use Rattle.faithful.proofs.Law.{Station-law}
 use Rattle.faithful.proofs.Locations.{width, split-place, all-long}
-use Rattle.faithful.proofs.Printed.{Stands-for, stands-numbers, alike-at}
+use Rattle.faithful.proofs.Printed.{stands-numbers, alike-at}
 use Rattle.faithful.proofs.Stations.{Matches, automaton-follows, model-follows}
 use Rattle.faithful.proofs.Nets.{Stand, law, one-side, other-side, station-law, printed-at, as-many-automata, as-many-here, as-many-there, printed-twin, same-scales, printed-scale, factor-at, net-twin, here-stance, there-stance, tells, made-parts}
 

@@ -1,5 +1,5 @@
 -- What of a lawful model net the proofs go by: every time of a station is in whole ticks of its scale.
-use Prim.Native.Nat.{ℕ, _*_, _<_, _≤_, _∣_}
+use Prim.Native.Nat.{ℕ, _<_, _≤_, _∣_}
 use native.Mathlib.Nat.{dvd-mul-left-of-dvd}
 use lib.ListN.{length}
 use mathlib.Core.List.{List, [], _∷_, _++_, map}

@@ -1,22 +1,21 @@
 -- Nets in which each station goes by its own rules run as the model's net does.
-use Prim.Native.Nat.{ℕ, suc, _+_, _*_, _<_, _≤_}
+use Prim.Native.Nat.{ℕ, _+_, _*_, _<_}
 use native.Mathlib.Nat.{suc-inj, one-le-mul}
 use native.Mathlib.Omega.{arith}
 use lib.ListN.{length}
-use mathlib.Core.Bool.{Bool, true, false}
+use mathlib.Core.Bool.{true, false}
 use mathlib.Core.List.{List}
 use mathlib.Core.Logic.{_⊎_, inl, inr}
 use mathlib.Core.Path.{_≡_, refl, sym, _∙_, ap, ap₂, subst, subst₂}
 use Rattle.std.specs.declared.option.Option.{Option}
 use Rattle.std.proofs.shelf.Tests.{eqb-true, eq-eqb}
 use Rattle.semantics.specs.Times.{Fraction, Proper}
-use Rattle.semantics.specs.Trees.{Word, Station, ModelNet, station-at, automaton-at, location-at, phase-at}
+use Rattle.semantics.specs.Trees.{Word, ModelNet, station-at, automaton-at, location-at, phase-at}
 use Rattle.semantics.specs.Scales.{station-scale, model-scale}
 use Rattle.semantics.specs.Events.{Event}
 use Rattle.semantics.specs.Runs.{Act, Rules}
 use Rattle.semantics.specs.ModelRules.{ModelState}
 use Rattle.semantics.specs.ModelRules as model
-use Rattle.semantics.specs.AutomatonRules.{AutomatonState}
 use Rattle.semantics.specs.AutomatonRules as automata
 use Rattle.semantics.specs.Print.{place-of, print, print-station}
 use Rattle.semantics.specs.LawfulModels.{LawfulModel}

@@ -3,11 +3,11 @@ use Prim.Native.Nat.{ℕ, zero, suc, _*_, _/_, _<_, _≤_, _∣_}
 use native.Mathlib.Nat.{div-mul-cancel}
 use native.Mathlib.Omega.{arith}
 use lib.Dec.{ltb, eqb}
-use lib.ListN.{length, getD, length-map}
+use lib.ListN.{length, length-map}
 use mathlib.Core.Bool.{Bool, true, false, cond, _||_}
 use mathlib.Core.List.{List, [], _∷_, map}
 use mathlib.Core.Logic.{_⊎_, inl, inr}
-use mathlib.Core.Path.{_≡_, refl, sym, _∙_, ap, ap₂, subst, subst₂}
+use mathlib.Core.Path.{_≡_, refl, sym, _∙_, ap, subst, subst₂}
 use Rattle.std.specs.declared.option.Option.{Option}
 use Rattle.std.specs.declared.option.Option.the-variants.{Some, None}
 use Rattle.std.specs.declared.result.Result.the-variants.{Ok, Err}
@@ -19,12 +19,12 @@ use Rattle.book.specs.declared.refusal.Fault.the-variants.{Scale, Paths, Room, 
 use Rattle.semantics.specs.Times.{Order}
 use Rattle.semantics.specs.Trees.{Station, ModelNet, station-at, blank-station, Automaton, automaton-at, blank-automaton}
 use Rattle.semantics.specs.Scales.{lcm-all, station-scale, model-scale, automaton-scale}
-use Rattle.semantics.specs.Machine.{Stance, StationMeaning, Meaning, blank-meaning, meaning-at, gear, net-scale, factor, geared}
-use Rattle.semantics.specs.Meanings.{stance-number, station-meaning, automaton-meaning, model-meaning, automata-meaning}
+use Rattle.semantics.specs.Machine.{Stance, StationMeaning, Meaning, blank-meaning, meaning-at, net-scale, factor, geared}
+use Rattle.semantics.specs.Meanings.{station-meaning, automaton-meaning, model-meaning, automata-meaning}
 use Rattle.semantics.specs.Events.{Event}
 use Rattle.semantics.specs.Net.{Net, NetState, state-at, stance-at}
-use Rattle.semantics.specs.Calls.{Answer, unless, at-zero, first-bad, misfit, bad-paths, make, telling}
-use Rattle.semantics.specs.Print.{place-of, print, print-station}
+use Rattle.semantics.specs.Calls.{Answer, unless, at-zero, first-bad, misfit, bad-paths, telling}
+use Rattle.semantics.specs.Print.{print, print-station}
 use Rattle.semantics.specs.LawfulModels.{LawfulModel}
 use Rattle.semantics.specs.Faithful.{model-made}
 use Rattle.faithful.proofs.Twins.{Both, Alike, Twin, map-at, map-past, geared-at, geared-twin}

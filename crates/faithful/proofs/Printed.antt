@@ -1,19 +1,18 @@
 -- A printed automaton means what its model's station means.
-use Prim.Native.Nat.{ℕ, zero, suc, _+_, _*_, _-_, _/_, _%_, _<_, _≤_}
+use Prim.Native.Nat.{ℕ, zero, suc, _+_, _*_, _<_, _≤_}
 use native.Mathlib.Nat.{one-le-mul}
 use native.Mathlib.Omega.{arith}
-use lib.Dec.{leb, ltb, eqb}
-use lib.ListN.{length, getD, drop, length-drop}
+use lib.ListN.{length, drop, length-drop}
 use mathlib.Core.Bool.{Bool, true, false, cond, _&&_}
 use mathlib.Core.List.{List, [], _∷_, _++_, map}
-use mathlib.Core.Path.{_≡_, refl, sym, _∙_, ap, ap₂, subst, subst₂}
+use mathlib.Core.Path.{_≡_, refl, sym, _∙_, ap, subst, subst₂}
 use Rattle.std.specs.shelf.Lists.{All}
 use Rattle.std.specs.declared.option.Option.{Option}
 use Rattle.std.specs.declared.option.Option.the-variants.{Some, None}
 use Rattle.std.proofs.shelf.Elements.{all-getD}
 use Rattle.std.proofs.shelf.Tests.{and-right}
-use Rattle.semantics.specs.Times.{Fraction, fraction, Window, Order, inside, counts, itself, whole}
-use Rattle.semantics.specs.Trees.{Word, Edge, Phase, endless, lasting, lifetime-of, words-of, edges-of, next-of, phase-at, blank-phase, Station, Transition, Location, location-at}
+use Rattle.semantics.specs.Times.{Fraction, fraction, Window, Order, inside, counts, itself}
+use Rattle.semantics.specs.Trees.{Word, Edge, Phase, endless, lasting, lifetime-of, words-of, edges-of, next-of, phase-at, blank-phase, Station, Transition, location-at}
 use Rattle.semantics.specs.Scales.{life-ticks, station-scale}
 use Rattle.semantics.specs.Fits.{word-fits, edge-fits, transition-fits, within-bound, first}
 use Rattle.semantics.specs.Machine.{move-to}

@@ -1,25 +1,25 @@
 -- A printed automaton goes as its model's station goes, and the other way round.
-use Prim.Native.Nat.{ℕ, zero, suc, _+_, _*_, _-_, _/_, _<_, _≤_, _∣_}
+use Prim.Native.Nat.{ℕ, zero, suc, _+_, _*_, _/_, _<_, _≤_, _∣_}
 use native.Mathlib.Nat.{one-le-mul, div-mul-cancel}
 use native.Mathlib.Omega.{arith}
 use lib.Dec.{ltb, eqb}
 use lib.ListN.{length, drop}
-use mathlib.Core.Bool.{Bool, true, false, cond, _&&_}
+use mathlib.Core.Bool.{Bool, true, false, _&&_}
 use mathlib.Core.List.{List, [], _∷_, _++_, map}
 use mathlib.Core.Logic.{_⊎_, inl, inr}
-use mathlib.Core.Path.{_≡_, refl, sym, _∙_, ap, ap₂, subst, subst₂}
+use mathlib.Core.Path.{_≡_, refl, sym, _∙_, ap, subst}
 use Rattle.std.specs.shelf.Lists.{All}
 use Rattle.std.specs.declared.option.Option.{Option}
 use Rattle.std.specs.declared.option.Option.the-variants.{Some, None}
 use Rattle.std.proofs.shelf.Tests.{le-leb, lt-ltb, ne-eqb, eqb-true}
 use Rattle.semantics.specs.Times.{Fraction, Proper, Order, inside, whole, plus, over, zero-time}
-use Rattle.semantics.specs.Trees.{Word, Edge, Phase, endless, lasting, lifetime-of, words-of, edges-of, next-of, phase-at, Station, Transition, Location, location-at}
+use Rattle.semantics.specs.Trees.{Word, Edge, Phase, endless, lasting, lifetime-of, words-of, edges-of, next-of, phase-at, Station, Transition, location-at}
 use Rattle.semantics.specs.Scales.{ticks, life-ticks, station-scale}
 use Rattle.semantics.specs.Fits.{edge-fits, transition-fits, within-bound}
 use Rattle.semantics.specs.Runs.{Rules}
 use Rattle.semantics.specs.ModelRules.{Any, ModelState, fresh, lasts, is-over, Sends-next, Leaves, model-rules}
 use Rattle.semantics.specs.AutomatonRules.{AutomatonState, at-bound, Moves-with, through, automaton-rules}
-use Rattle.semantics.specs.Print.{from-on, locations-for, place-of, print-edge, print-sending, print-move, print-moves, print-quiet, print-station}
+use Rattle.semantics.specs.Print.{from-on, place-of, print-edge, print-sending, print-move, print-moves, print-quiet, print-station}
 use Rattle.semantics.specs.LawfulModels.{Next-here}
 use Rattle.semantics.proofs.Options.{some-not-none}
 use Rattle.faithful.proofs.Simulation.{Follows}

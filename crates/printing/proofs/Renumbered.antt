@@ -5,7 +5,7 @@ use lib.Dec.{eqb, ltb}
 use mathlib.Core.Bool.{Bool, true, false, cond, _||_}
 use mathlib.Core.List.{List, [], _∷_, map}
 use mathlib.Core.Logic.{_⊎_, inl, inr}
-use mathlib.Core.Path.{_≡_, refl, sym, _∙_, ap, ap₂, subst}
+use mathlib.Core.Path.{_≡_, refl, sym, _∙_, ap, ap₂}
 use Rattle.std.specs.shelf.Lists.{All}
 use Rattle.std.proofs.shelf.Elements.{all-weaker}
 use Rattle.std.proofs.shelf.Tests.{eq-eqb, ne-eqb, lt-ltb, le-ltb, or-parts, eqb-false, ltb-false, cases-eq, cases-lt}
@@ -15,12 +15,12 @@ use Rattle.book.specs.declared.term.Kind.the-variants as kinds
 use Rattle.book.specs.declared.record.Station.{Station as StationRow}
 use Rattle.book.specs.declared.record.Phase.{Phase as PhaseRow}
 use Rattle.book.specs.declared.record.Edge.{Edge as EdgeRow}
-use Rattle.records.specs.Model.{station-in, phase-in, edge-in, word-in}
+use Rattle.records.specs.Model.{station-in, phase-in, edge-in}
 use Rattle.semantics.specs.Times.{Order, Fraction}
-use Rattle.semantics.specs.Trees.{Word, Edge, Phase, endless, lasting, Station, Path, ModelNet}
+use Rattle.semantics.specs.Trees.{Word, Edge, Phase, endless, lasting, Station, Path}
 use Rattle.semantics.specs.Books.{marks-of, rest-of, place-in, is-endless, read-word, read-edge, read-phase, read-station, read-path, read-order, read-model}
 use Rattle.semantics.specs.Rows.{printed-book}
-use Rattle.printing.specs.Renumbered.{Is-of, renumber-station, renumber-phase, renumber-edge, Renumbered, Chains-of-kinds, Prints-the-same, Numbers-do-not-matter}
+use Rattle.printing.specs.Renumbered.{Is-of, Renumbered, Chains-of-kinds, Numbers-do-not-matter}
 
 mapped-same : {A B : Type 0} (f g : A → B) (h : A → A) (xs : List A) → All (λ x. f (h x) ≡ g x) xs → map f (map h xs) ≡ map g xs
 mapped-same f g h [] e = refl

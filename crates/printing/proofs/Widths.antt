@@ -1,25 +1,22 @@
 -- Every printed record fits its fields.
-use Prim.Native.Nat.{ℕ, zero, suc, _+_, _*_, _<_, _≤_, _^_}
+use Prim.Native.Nat.{ℕ, zero, suc, _+_, _*_, _<_, _≤_}
 use native.Mathlib.Nat.{mul-le-mul-left}
 use native.Mathlib.Omega.{arith}
 use lib.ListN.{length, getD, length-append}
-use mathlib.Core.Bool.{true, false}
-use mathlib.Core.List.{List, [], _∷_, _++_, map}
-use mathlib.Core.Path.{_≡_, refl, sym, _∙_, ap, subst}
+use mathlib.Core.List.{List, [], _∷_, _++_}
 use Rattle.std.specs.shelf.Lists.{All, joined, sumBy}
 use Rattle.std.proofs.shelf.Elements.{all-append, all-weaker}
 use Rattle.std.specs.declared.option.Option.{Option}
 use Rattle.std.specs.declared.option.Option.the-variants.{Some, None}
 use Rattle.records.specs.Fits.{Byte, Two, Four, Eight, High-fits, Window-fits, Path-fits, Label-fits, Bound-fits, Automaton-fits, Fits}
-use Rattle.semantics.specs.Times.{HighEnd, Closed, Open, Absent, Window, Order}
+use Rattle.semantics.specs.Times.{HighEnd, Closed, Open, Absent, Order}
 use Rattle.semantics.specs.Trees.{Path, Phase, Station, ModelNet, Label, Silent, Hears, Sends, Transition, Location, Automaton}
 use Rattle.semantics.specs.Scales.{station-scale}
 use Rattle.semantics.specs.Limits.{Lawful-path}
-use Rattle.semantics.specs.Print.{place-of, print-phases, print-station, station-locations, print}
+use Rattle.semantics.specs.Print.{place-of, print-phases, print-station, station-locations}
 use Rattle.semantics.specs.LawfulAutomata.{Lawful-label, Lawful-transition, Lawful-location, Lawful-automaton}
 use Rattle.semantics.specs.LawfulAutomata as lawful
-use Rattle.semantics.specs.LawfulModels.{LawfulModel}
-use Rattle.semantics.specs.Rows.{Rec, leading, chained, transition-record, location-record, location-records, transition-records, size-of, count-from, location-numbers, phase-records, automaton-record, station-records, path-record, printed-records}
+use Rattle.semantics.specs.Rows.{Rec, leading, chained, transition-record, location-records, transition-records, size-of, count-from, location-numbers, phase-records, station-records, path-record, printed-records}
 use Rattle.faithful.proofs.Law.{all-parts}
 use Rattle.printing.proofs.Sizes.{size-cons, sizes-cons, size-least, chained-long, phases-long}
 
