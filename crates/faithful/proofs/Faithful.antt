@@ -15,28 +15,28 @@ use Rattle.semantics.specs.Events.{Event}
 use Rattle.semantics.specs.Net.{NetState, state-at}
 use Rattle.semantics.specs.Calls.{Call, telling}
 use Rattle.semantics.specs.Runs.{Act, Rules, Run}
-use Rattle.semantics.specs.ModelRules.{ModelState, model-rules}
+use Rattle.semantics.specs.ModelRules.{ModelState}
 use Rattle.semantics.specs.ModelRules as model
 use Rattle.semantics.specs.AutomatonRules.{AutomatonState, automaton-rules}
 use Rattle.semantics.specs.AutomatonRules as automata
 use Rattle.semantics.specs.Print.{place-of, print, print-station}
 use Rattle.semantics.specs.LawfulModels.{LawfulModel}
-use Rattle.semantics.specs.Faithful.{Faithful, Agrees, model-made, automata-made, model-start, automaton-start, Is-time, Model-stands, Automata-stand, Correspond, SameRuns}
+use Rattle.semantics.specs.Faithful.{Agrees, model-made, automata-made, model-start, automaton-start, Is-time, Model-stands, Automata-stand, Correspond, SameRuns}
 use Rattle.faithful.specs.Theorems.{Printing-is-faithful}
 use Rattle.faithful.proofs.Simulation.{Follows, run-too, run-proper}
 use Rattle.faithful.proofs.Twins.{Even, even-openings, same-telling, answers-agree, make-same}
 use Rattle.faithful.proofs.Ticks.{Shows}
 use Rattle.faithful.proofs.Law.{Station-law}
 use Rattle.faithful.proofs.Locations.{width, split-place, all-long}
-use Rattle.faithful.proofs.Printed.{Stands-for, stands-numbers, alike-at}
+use Rattle.faithful.proofs.Printed.{stands-numbers, alike-at}
 use Rattle.faithful.proofs.Stations.{Matches, automaton-follows, model-follows}
 use Rattle.faithful.proofs.Nets.{Stand, law, one-side, other-side, station-law, printed-at, as-many-automata, as-many-here, as-many-there, printed-twin, same-scales, printed-scale, factor-at, net-twin, here-stance, there-stance, tells, made-parts}
 
-stance-phase : (o : Order) (st : Station) (i j : ℕ) → model-stance o (station-scale st) (st .phases) i j .phase ≡ suc i
+pub stance-phase : (o : Order) (st : Station) (i j : ℕ) → model-stance o (station-scale st) (st .phases) i j .phase ≡ suc i
 stance-phase o st i zero = refl
 stance-phase o st i (suc j) = refl
 
-stance-sent : (o : Order) (st : Station) (i j : ℕ) → model-stance o (station-scale st) (st .phases) i j .sent ≡ j
+pub stance-sent : (o : Order) (st : Station) (i j : ℕ) → model-stance o (station-scale st) (st .phases) i j .sent ≡ j
 stance-sent o st i zero = refl
 stance-sent o st i (suc j) = refl
 
@@ -50,7 +50,7 @@ unique-place o L st law n i j l ep es =
     let ej : r .1 ≡ j = sym (stance-sent o st (r .0) (r .1)) ∙ a .sent ∙ es in
     r .4 ∙ ap₂ (λ x y. place-of (st .phases) x + y) ei ej
 
-regroup : (u s c : ℕ) → u * s * c ≡ u * (c * s)
+pub regroup : (u s c : ℕ) → u * s * c ≡ u * (c * s)
 regroup u s c = omega arith
 
 -- an age and a clock that are e parts, q to a net tick
@@ -131,13 +131,13 @@ module _ (m : ModelNet) (lawful : LawfulModel m) (q : ℕ) (some : 1 ≤ q) wher
   abbrev there-rules : ℕ → Rules AutomatonState
   there-rules = automata.rules-of (print m)
 
-  suits-forward : (i : ℕ) → i < length (m .stations) → Follows Proper (here-rules i) (there-rules i) (Matches (station-at m i))
+  pub suits-forward : (i : ℕ) → i < length (m .stations) → Follows Proper (here-rules i) (there-rules i) (Matches (station-at m i))
   suits-forward i l =
       subst₂ (λ (L : ℕ) (a : Automaton). Follows Proper (here-rules i) (automaton-rules (L / a .scale) a) (Matches (station-at m i)))
       (sym (printed-scale m lawful)) (sym (printed-at m lawful i l))
       (automaton-follows (m .order) (model-scale m) (station-at m i) (law m lawful .some-scale) (factor-at m lawful i l) (station-law m lawful i l))
 
-  suits-back : (i : ℕ) → i < length (m .stations) → Follows Proper (there-rules i) (here-rules i) (λ y x. Matches (station-at m i) x y)
+  pub suits-back : (i : ℕ) → i < length (m .stations) → Follows Proper (there-rules i) (here-rules i) (λ y x. Matches (station-at m i) x y)
   suits-back i l =
       subst₂ (λ (L : ℕ) (a : Automaton). Follows Proper (automaton-rules (L / a .scale) a) (here-rules i) (λ y x. Matches (station-at m i) x y))
       (sym (printed-scale m lawful)) (sym (printed-at m lawful i l))

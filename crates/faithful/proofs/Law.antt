@@ -1,5 +1,5 @@
 -- What of a lawful model net the proofs go by: every time of a station is in whole ticks of its scale.
-use Prim.Native.Nat.{ℕ, _*_, _<_, _≤_, _∣_}
+use Prim.Native.Nat.{ℕ, _<_, _≤_, _∣_}
 use native.Mathlib.Nat.{dvd-mul-left-of-dvd}
 use lib.ListN.{length}
 use mathlib.Core.List.{List, [], _∷_, _++_, map}
@@ -37,7 +37,7 @@ pub record Station-law (L : ℕ) (st : Station) : Type 0 where
 abbrev Divide : ℕ → List ℕ → Type 0
 Divide s ds = All (λ d. 1 ≤ d → d ∣ s) ds
 
-all-parts : {A : Type 0} (P : A → Type 0) (xs ys : List A) → All P (xs ++ ys) → All P xs × All P ys
+pub all-parts : {A : Type 0} (P : A → Type 0) (xs ys : List A) → All P (xs ++ ys) → All P xs × All P ys
 all-parts P [] ys h = (tt, h)
 all-parts P (x ∷ xs) ys h = let r = all-parts P xs ys (h .1) in ((h .0, r .0), r .1)
 

@@ -8,3 +8,5 @@ pub mod Stations
 pub mod Nets
 pub mod Faithful
 pub mod PrintedLawful
+pub mod Mixed
+pub mod MixedCalls

@@ -3,7 +3,7 @@ use Prim.Native.Nat.{ℕ, zero, suc, _+_, _-_, _<_, _≤_, suc-le-suc}
 use native.Mathlib.Omega.{arith}
 use lib.ListN.{length, getD, drop}
 use mathlib.Core.Bool.{true}
-use mathlib.Core.List.{List, [], _∷_, _++_}
+use mathlib.Core.List.{List, [], _∷_}
 use mathlib.Core.Path.{_≡_, refl, sym, _∙_, ap, ap₂}
 use mathlib.Core.Logic.{_⊎_, inl, inr}
 use Rattle.std.specs.shelf.Lists.{joined}
@@ -27,6 +27,11 @@ pub drop-some : (ws : List Word) (j : ℕ) → j < length ws → (w : Word) × (
 drop-some [] j l = absurd (omega arith)
 drop-some (w ∷ ws) zero l = (w, ws, refl)
 drop-some (w ∷ ws) (suc j) l = drop-some ws j (omega arith)
+
+-- a location with k words sent, k not 0, has a word to send
+pub more-words : (ws : List Word) (k : ℕ) → suc k < locations-for ws → suc k < length ws
+more-words [] k h = absurd (omega arith)
+more-words (w ∷ ws) k h = h
 
 -- the location with the word w to send, and the words `rest` after it
 abbrev pub busy-location : ℕ → ℕ → ℕ → ℕ → Word → List Word → Location

@@ -3,11 +3,11 @@ use Prim.Native.Nat.{ℕ, zero, suc, _*_, _/_, _<_, _≤_, _∣_}
 use native.Mathlib.Nat.{div-mul-cancel}
 use native.Mathlib.Omega.{arith}
 use lib.Dec.{ltb, eqb}
-use lib.ListN.{length, getD, length-map}
+use lib.ListN.{length, length-map}
 use mathlib.Core.Bool.{Bool, true, false, cond, _||_}
 use mathlib.Core.List.{List, [], _∷_, map}
 use mathlib.Core.Logic.{_⊎_, inl, inr}
-use mathlib.Core.Path.{_≡_, refl, sym, _∙_, ap, ap₂, subst, subst₂}
+use mathlib.Core.Path.{_≡_, refl, sym, _∙_, ap, subst, subst₂}
 use Rattle.std.specs.declared.option.Option.{Option}
 use Rattle.std.specs.declared.option.Option.the-variants.{Some, None}
 use Rattle.std.specs.declared.result.Result.the-variants.{Ok, Err}
@@ -19,12 +19,12 @@ use Rattle.book.specs.declared.refusal.Fault.the-variants.{Scale, Paths, Room, 
 use Rattle.semantics.specs.Times.{Order}
 use Rattle.semantics.specs.Trees.{Station, ModelNet, station-at, blank-station, Automaton, automaton-at, blank-automaton}
 use Rattle.semantics.specs.Scales.{lcm-all, station-scale, model-scale, automaton-scale}
-use Rattle.semantics.specs.Machine.{Stance, StationMeaning, Meaning, blank-meaning, meaning-at, gear, net-scale, factor, geared}
-use Rattle.semantics.specs.Meanings.{stance-number, station-meaning, automaton-meaning, model-meaning, automata-meaning}
+use Rattle.semantics.specs.Machine.{Stance, StationMeaning, Meaning, blank-meaning, meaning-at, net-scale, factor, geared}
+use Rattle.semantics.specs.Meanings.{station-meaning, automaton-meaning, model-meaning, automata-meaning}
 use Rattle.semantics.specs.Events.{Event}
 use Rattle.semantics.specs.Net.{Net, NetState, state-at, stance-at}
-use Rattle.semantics.specs.Calls.{Answer, unless, at-zero, first-bad, misfit, bad-paths, make, telling}
-use Rattle.semantics.specs.Print.{place-of, print, print-station}
+use Rattle.semantics.specs.Calls.{Answer, unless, at-zero, first-bad, misfit, bad-paths, telling}
+use Rattle.semantics.specs.Print.{print, print-station}
 use Rattle.semantics.specs.LawfulModels.{LawfulModel}
 use Rattle.semantics.specs.Faithful.{model-made}
 use Rattle.faithful.proofs.Twins.{Both, Alike, Twin, map-at, map-past, geared-at, geared-twin}
@@ -44,7 +44,7 @@ both-weaker R Q f None (Some b) h = absurd h
 both-weaker R Q f (Some a) None h = absurd h
 both-weaker R Q f (Some a) (Some b) h = f a b h
 
-alike-weaker : (R Q : ℕ → ℕ → Type 0) → ((s t : ℕ) → R s t → Q s t) → (x y : Stance) → Alike R x y → Alike Q x y
+pub alike-weaker : (R Q : ℕ → ℕ → Type 0) → ((s t : ℕ) → R s t → Q s t) → (x y : Stance) → Alike R x y → Alike Q x y
 alike-weaker R Q f x y a = record {
   phase = a .phase;
   sent = a .sent;
@@ -55,7 +55,7 @@ alike-weaker R Q f x y a = record {
 }
 
 -- the scales of both machines are the stations' scales
-model-scales : (o : Order) (sts : List Station) → map (λ m. m .scale) (map (station-meaning o) sts) ≡ map station-scale sts
+pub model-scales : (o : Order) (sts : List Station) → map (λ m. m .scale) (map (station-meaning o) sts) ≡ map station-scale sts
 model-scales o [] = refl
 model-scales o (st ∷ sts) = ap (λ r. station-scale st ∷ r) (model-scales o sts)
 
@@ -95,7 +95,7 @@ module _ (m : ModelNet) (lawful : LawfulModel m) where
   pub as-many-there : length other-side ≡ length (m .stations)
   as-many-there = length-map (print m .automata) automaton-meaning ∙ as-many-automata
 
-  here-at : (i : ℕ) → i < length (m .stations) → meaning-at one-side i ≡ station-meaning (m .order) (station-at m i)
+  pub here-at : (i : ℕ) → i < length (m .stations) → meaning-at one-side i ≡ station-meaning (m .order) (station-at m i)
   here-at i l = map-at (station-meaning (m .order)) blank-station blank-meaning (m .stations) i l
 
   there-at : (i : ℕ) → i < length (m .stations) → meaning-at other-side i ≡ automaton-meaning (print-station (m .order) (station-at m i))
@@ -103,7 +103,7 @@ module _ (m : ModelNet) (lawful : LawfulModel m) where
       map-at automaton-meaning blank-automaton blank-meaning (print m .automata) i (subst (λ n. i < n) (sym as-many-automata) l)
       ∙ ap automaton-meaning (printed-at i l)
 
-  here-past : (i : ℕ) → length (m .stations) ≤ i → meaning-at one-side i ≡ blank-meaning
+  pub here-past : (i : ℕ) → length (m .stations) ≤ i → meaning-at one-side i ≡ blank-meaning
   here-past i l = map-past (station-meaning (m .order)) blank-meaning (m .stations) i l
 
   there-past : (i : ℕ) → length (m .stations) ≤ i → meaning-at other-side i ≡ blank-meaning
@@ -139,12 +139,15 @@ module _ (m : ModelNet) (lawful : LawfulModel m) where
   pub factor-at : (i : ℕ) → i < length (m .stations) → 1 ≤ model-scale m / station-scale (station-at m i)
   factor-at i l = factor-some (model-scale m) (station-scale (station-at m i)) (law .some-scale) (station-law i l .divides)
 
+  pub here-factor : (i : ℕ) → i < length one-side → 1 ≤ factor (net-scale one-side) (meaning-at one-side i)
+  here-factor i l =
+      let k : i < length (m .stations) = subst (λ n. i < n) as-many-here l in
+      subst₂ (λ (L : ℕ) (x : StationMeaning). 1 ≤ L / x .scale) (sym here-scale) (sym (here-at i k)) (factor-at i k)
+
   pub net-twin : Twin Stand (geared one-side) (geared other-side)
   net-twin =
       geared-twin Stand one-side other-side printed-twin same-scales
-      (λ i l.
-      let k : i < length (m .stations) = subst (λ n. i < n) as-many-here l in
-      subst₂ (λ (L : ℕ) (x : StationMeaning). 1 ≤ L / x .scale) (sym here-scale) (sym (here-at i k)) (factor-at i k))
+      here-factor
       (λ i s t past here. absurd (let k = as-many-here in omega arith))
 
   -- a station of the net on either side, but for its gearing

@@ -1,19 +1,18 @@
 -- A printed automaton means what its model's station means.
-use Prim.Native.Nat.{ℕ, zero, suc, _+_, _*_, _-_, _/_, _%_, _<_, _≤_}
+use Prim.Native.Nat.{ℕ, zero, suc, _+_, _*_, _<_, _≤_}
 use native.Mathlib.Nat.{one-le-mul}
 use native.Mathlib.Omega.{arith}
-use lib.Dec.{leb, ltb, eqb}
-use lib.ListN.{length, getD, drop, length-drop}
+use lib.ListN.{length, drop, length-drop}
 use mathlib.Core.Bool.{Bool, true, false, cond, _&&_}
 use mathlib.Core.List.{List, [], _∷_, _++_, map}
-use mathlib.Core.Path.{_≡_, refl, sym, _∙_, ap, ap₂, subst, subst₂}
+use mathlib.Core.Path.{_≡_, refl, sym, _∙_, ap, subst, subst₂}
 use Rattle.std.specs.shelf.Lists.{All}
 use Rattle.std.specs.declared.option.Option.{Option}
 use Rattle.std.specs.declared.option.Option.the-variants.{Some, None}
 use Rattle.std.proofs.shelf.Elements.{all-getD}
 use Rattle.std.proofs.shelf.Tests.{and-right}
-use Rattle.semantics.specs.Times.{Fraction, fraction, Window, Order, inside, counts, itself, whole}
-use Rattle.semantics.specs.Trees.{Word, Edge, Phase, endless, lasting, lifetime-of, words-of, edges-of, next-of, phase-at, blank-phase, Station, Transition, Location, location-at}
+use Rattle.semantics.specs.Times.{Fraction, fraction, Window, Order, inside, counts, itself}
+use Rattle.semantics.specs.Trees.{Word, Edge, Phase, endless, lasting, lifetime-of, words-of, edges-of, next-of, phase-at, blank-phase, Station, Transition, location-at}
 use Rattle.semantics.specs.Scales.{life-ticks, station-scale}
 use Rattle.semantics.specs.Fits.{word-fits, edge-fits, transition-fits, within-bound, first}
 use Rattle.semantics.specs.Machine.{move-to}
@@ -23,7 +22,7 @@ use Rattle.semantics.specs.LawfulModels.{Next-here}
 use Rattle.faithful.proofs.Twins.{Both, Same-move, Alike}
 use Rattle.faithful.proofs.Ticks.{Life-in-ticks, Shows, window-same, within-life}
 use Rattle.faithful.proofs.Law.{Edge-law, Phase-law, Station-law}
-use Rattle.faithful.proofs.Locations.{width, drop-some, busy-location, quiet-at, busy-at}
+use Rattle.faithful.proofs.Locations.{width, drop-some, more-words, busy-location, quiet-at, busy-at}
 
 -- the stance s of the model is the location t
 pub record Stands-for (st : Station) (s t : ℕ) : Type 0 where
@@ -204,14 +203,10 @@ module _ (o : Order) (L : ℕ) (st : Station) (law : Station-law L st) where
       Alike (Stands-for st) (model-stance o (station-scale st) (st .phases) i j) (location-stance (location-at (print-station o st) n))
   alike-at i zero l m n en = subst (λ x. Alike (Stands-for st) (model-stance o (station-scale st) (st .phases) i 0) (location-stance x)) (sym (quiet-at o st i l n en)) (quiet-alike i n l en)
   alike-at i (suc j) l m n en =
-      let more : suc j < length (words-of (phase-at (st .phases) i)) = within (words-of (phase-at (st .phases) i)) j m in
+      let more : suc j < length (words-of (phase-at (st .phases) i)) = more-words (words-of (phase-at (st .phases) i)) j m in
       let d = drop-some (words-of (phase-at (st .phases) i)) (suc j) more in
       subst (λ x. Alike (Stands-for st) (model-stance o (station-scale st) (st .phases) i (suc j)) (location-stance x)) (sym (busy-at o st i l j n (d .0) (d .1) m (d .2) en))
       (busy-alike i l j n en (d .0) (d .1) (d .2))
-    where
-      within : (ws : List Word) (k : ℕ) → suc k < locations-for ws → suc k < length ws
-      within [] k h = absurd (omega arith)
-      within (w ∷ ws) k h = h
 
   pub stands-numbers : (s t : ℕ) (stands : Stands-for st s t) → (stands .i ≡ phase-of s) × (stands .j ≡ sent-of s)
   stands-numbers s t stands =

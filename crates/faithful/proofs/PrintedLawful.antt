@@ -1,31 +1,31 @@
 -- What is printed from a lawful model net is a lawful automaton net.
-use Prim.Native.Nat.{ℕ, zero, suc, _+_, _*_, _/_, _<_, _≤_}
+use Prim.Native.Nat.{ℕ, zero, suc, _+_, _*_, _<_, _≤_}
 use native.Mathlib.Nat.{one-le-mul, div-le-self, mul-le-mul-right}
 use native.Mathlib.Omega.{arith}
 use lib.Dec.{leb, ltb}
-use lib.ListN.{length, getD, drop, length-map, length-append}
+use lib.ListN.{length, drop, length-map, length-append}
 use mathlib.Core.Bool.{Bool, true, false, cond, not, _&&_}
 use mathlib.Core.List.{List, [], _∷_, _++_, map}
-use mathlib.Core.Path.{_≡_, refl, sym, _∙_, ap, ap₂, subst, subst₂}
+use mathlib.Core.Path.{_≡_, refl, sym, _∙_, ap, subst}
 use Rattle.std.specs.shelf.Lists.{All, joined, sumBy}
 use Rattle.std.specs.declared.option.Option.{Option}
 use Rattle.std.specs.declared.option.Option.the-variants.{Some, None}
-use Rattle.std.proofs.shelf.Elements.{all-getD, all-from-getD, all-append, all-map}
+use Rattle.std.proofs.shelf.Elements.{all-getD, all-from-getD, all-append}
 use Rattle.std.proofs.shelf.Sums.{sumBy-cons, sumBy-append}
 use Rattle.std.proofs.shelf.Tests.{le-leb, and-parts}
-use Rattle.records.specs.Fits.{Byte, High-fits}
+use Rattle.records.specs.Fits.{High-fits}
 use Rattle.semantics.specs.Times.{Fraction, fraction, Proper, HighEnd, Closed, Open, Absent, Window, Order, StepFirst, WordFirst, inside, counts, itself, whole, over}
-use Rattle.semantics.specs.Trees.{Word, Edge, Phase, endless, lasting, lifetime-of, words-of, edges-of, next-of, phase-at, blank-phase, Station, ModelNet, Transition, Location, location-at, blank-location, Automaton}
+use Rattle.semantics.specs.Trees.{Word, Edge, Phase, endless, lasting, lifetime-of, words-of, edges-of, next-of, phase-at, blank-phase, Station, Transition, location-at, blank-location, Automaton}
 use Rattle.semantics.specs.Scales.{ticks, life-ticks, station-scale, model-scale}
 use Rattle.semantics.specs.Fits.{edge-fits, transition-fits, within-bound}
 use Rattle.semantics.specs.Limits.{At-most-one, Lawful-path}
-use Rattle.semantics.specs.Print.{tick-high, cut-high, hearing-guard, from-on, locations-for, place-of, print-edge, print-sending, print-move, print-moves, print-committed, print-quiet, print-phase, print-phases, print-station, print}
-use Rattle.semantics.specs.LawfulModels.{Small-time, Small-life, Lawful-word, Lawful-edge, Next-here, Window-holds, Lawful-phase, Lawful-station, phase-records, station-records, model-records, LawfulModel}
-use Rattle.semantics.specs.LawfulAutomata.{is-move, Lawful-label, Lawful-transition, Printed-move, Hears-only, Lawful-moves, Bound-fits, Lawful-location, Lawful-automaton, location-records, automaton-records, LawfulAutomata}
+use Rattle.semantics.specs.Print.{tick-high, cut-high, hearing-guard, from-on, locations-for, place-of, print-edge, print-sending, print-move, print-moves, print-committed, print-quiet, print-phase, print-phases, print-station}
+use Rattle.semantics.specs.LawfulModels.{Small-time, Small-life, Lawful-word, Lawful-edge, Window-holds, Lawful-phase, Lawful-station, phase-records, station-records}
+use Rattle.semantics.specs.LawfulAutomata.{is-move, Lawful-label, Lawful-transition, Printed-move, Hears-only, Lawful-moves, Bound-fits, Lawful-location, Lawful-automaton, location-records, automaton-records}
 use Rattle.faithful.specs.Theorems.{Printed-is-lawful}
 use Rattle.faithful.proofs.Ticks.{In-ticks, Life-in-ticks, High-in-ticks, Shows, window-same, within-life}
-use Rattle.faithful.proofs.Law.{Edge-law, Phase-law, Station-law, Net-law, net-law}
-use Rattle.faithful.proofs.Locations.{width, listed, drop-some, busy-location, quiet-at, busy-at, split-place, all-long}
+use Rattle.faithful.proofs.Law.{Edge-law, Station-law, net-law}
+use Rattle.faithful.proofs.Locations.{width, drop-some, more-words, busy-location, quiet-at, busy-at, split-place, all-long}
 use Rattle.faithful.proofs.Printed.{fits-same, phase-law, words-next, drop-words, drop-width, width-some, width-few}
 use Rattle.faithful.proofs.Stations.{moves-deaf}
 use Rattle.faithful.proofs.Nets.{printed-scale}
@@ -318,14 +318,10 @@ module _ (o : Order) (L : ℕ) (st : Station) (lawful : Lawful-station o st) (la
   location-lawful : (n : ℕ) → n < many → Lawful-location pa (location-at pa n)
   location-lawful n l = let r = split-place o s (st .phases) (st .phases) 0 0 n l in go (r .0) (r .1) (r .2) (r .3) (r .4)
     where
-      within : (ws : List Word) (k : ℕ) → suc k < locations-for ws → suc k < length ws
-      within [] k h = absurd (omega arith)
-      within (w ∷ ws) k h = h
-
       go : (i j : ℕ) → i < length (st .phases) → j < width (phase-at (st .phases) i) → n ≡ place-of (st .phases) i + j → Lawful-location pa (location-at pa n)
       go i zero li lj e = subst (Lawful-location pa) (sym (quiet-at o st i li n e)) (quiet-lawful i n li e)
       go i (suc j) li lj e =
-          let d = drop-some (words-of (phase-at (st .phases) i)) (suc j) (within (words-of (phase-at (st .phases) i)) j lj) in
+          let d = drop-some (words-of (phase-at (st .phases) i)) (suc j) (more-words (words-of (phase-at (st .phases) i)) j lj) in
           subst (Lawful-location pa) (sym (busy-at o st i li j n (d .0) (d .1) lj (d .2) e)) (busy-lawful i j n li lj (d .0) (d .1) (d .2) e)
 
   station-lawful : Lawful-automaton pa

@@ -1,18 +1,16 @@
 -- A run by the one side's rules is a run by the other's, with the same events, where each station's rules follow the other's.
-use Prim.Native.Nat.{ℕ, zero, suc, _+_, _*_, _<_, _≤_}
+use Prim.Native.Nat.{ℕ, suc, _<_}
 use native.Mathlib.Omega.{arith}
-use lib.Dec.{leb, ltb, eqb}
-use lib.ListN.{length, getD}
-use mathlib.Core.Bool.{Bool, true, false, cond, not, _&&_}
-use mathlib.Core.List.{List, [], _∷_, _++_, map}
+use lib.Dec.{eqb}
+use mathlib.Core.Bool.{Bool, true, false, cond}
+use mathlib.Core.List.{List, [], _∷_, _++_}
 use mathlib.Core.Logic.{_⊎_, inl, inr}
-use mathlib.Core.Path.{_≡_, refl, sym, _∙_, ap, ap₂, subst, subst₂, fun-ext}
+use mathlib.Core.Path.{_≡_, refl, sym, _∙_, ap₂, subst}
 use Rattle.std.specs.declared.option.Option.{Option}
-use Rattle.std.specs.declared.option.Option.the-variants.{Some, None}
 use Rattle.std.proofs.shelf.Tests.{eqb-true}
-use Rattle.semantics.specs.Times.{Fraction, Proper, Order, StepFirst, WordFirst}
+use Rattle.semantics.specs.Times.{Fraction, Proper, Order}
 use Rattle.semantics.specs.Trees.{Word, Path}
-use Rattle.semantics.specs.Events.{Event, event, leaves, Arrival, External, Output, Internal}
+use Rattle.semantics.specs.Events.{Event, event, Arrival, External, Internal}
 use Rattle.semantics.specs.Runs.{Act, word, step, delay, Rules, put, All-quiet, None-due, Turn, lowest-busy, lowest-due, Delivered, done, elsewhere, outside, unheard, heard, Sent, nothing, one-word, landing, Does, delayed, worded, stepped, Run, ended, goes-on}
 
 -- B follows A on the states that S relates, over the delays in D.

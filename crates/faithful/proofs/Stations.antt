@@ -1,31 +1,31 @@
 -- A printed automaton goes as its model's station goes, and the other way round.
-use Prim.Native.Nat.{ℕ, zero, suc, _+_, _*_, _-_, _/_, _<_, _≤_, _∣_}
+use Prim.Native.Nat.{ℕ, zero, suc, _+_, _*_, _/_, _<_, _≤_, _∣_}
 use native.Mathlib.Nat.{one-le-mul, div-mul-cancel}
 use native.Mathlib.Omega.{arith}
 use lib.Dec.{ltb, eqb}
 use lib.ListN.{length, drop}
-use mathlib.Core.Bool.{Bool, true, false, cond, _&&_}
+use mathlib.Core.Bool.{Bool, true, false, _&&_}
 use mathlib.Core.List.{List, [], _∷_, _++_, map}
 use mathlib.Core.Logic.{_⊎_, inl, inr}
-use mathlib.Core.Path.{_≡_, refl, sym, _∙_, ap, ap₂, subst, subst₂}
+use mathlib.Core.Path.{_≡_, refl, sym, _∙_, ap, subst}
 use Rattle.std.specs.shelf.Lists.{All}
 use Rattle.std.specs.declared.option.Option.{Option}
 use Rattle.std.specs.declared.option.Option.the-variants.{Some, None}
 use Rattle.std.proofs.shelf.Tests.{le-leb, lt-ltb, ne-eqb, eqb-true}
 use Rattle.semantics.specs.Times.{Fraction, Proper, Order, inside, whole, plus, over, zero-time}
-use Rattle.semantics.specs.Trees.{Word, Edge, Phase, endless, lasting, lifetime-of, words-of, edges-of, next-of, phase-at, Station, Transition, Location, location-at}
+use Rattle.semantics.specs.Trees.{Word, Edge, Phase, endless, lasting, lifetime-of, words-of, edges-of, next-of, phase-at, Station, Transition, location-at}
 use Rattle.semantics.specs.Scales.{ticks, life-ticks, station-scale}
 use Rattle.semantics.specs.Fits.{edge-fits, transition-fits, within-bound}
 use Rattle.semantics.specs.Runs.{Rules}
 use Rattle.semantics.specs.ModelRules.{Any, ModelState, fresh, lasts, is-over, Sends-next, Leaves, model-rules}
 use Rattle.semantics.specs.AutomatonRules.{AutomatonState, at-bound, Moves-with, through, automaton-rules}
-use Rattle.semantics.specs.Print.{from-on, locations-for, place-of, print-edge, print-sending, print-move, print-moves, print-quiet, print-station}
+use Rattle.semantics.specs.Print.{from-on, place-of, print-edge, print-sending, print-move, print-moves, print-quiet, print-station}
 use Rattle.semantics.specs.LawfulModels.{Next-here}
 use Rattle.semantics.proofs.Options.{some-not-none}
 use Rattle.faithful.proofs.Simulation.{Follows}
 use Rattle.faithful.proofs.Ticks.{Life-in-ticks, Shows, at-most-same, at-same}
 use Rattle.faithful.proofs.Law.{Edge-law, Phase-law, Station-law}
-use Rattle.faithful.proofs.Locations.{width, drop-some, busy-location, quiet-at, busy-at}
+use Rattle.faithful.proofs.Locations.{width, drop-some, more-words, busy-location, quiet-at, busy-at}
 use Rattle.faithful.proofs.Printed.{fits-same, drop-words, drop-width, phase-law, width-some}
 
 -- the clock goes on showing the age over a delay
@@ -87,15 +87,11 @@ module _ (o : Order) (L : ℕ) (st : Station) (some : 1 ≤ L) (factor : 1 ≤ L
   view : (x : ModelState) (y : AutomatonState) → Matches st x y → View x y
   view x y m = go (x .sent) refl
     where
-      within : (ws : List Word) (k : ℕ) → suc k < locations-for ws → suc k < length ws
-      within [] k h = absurd (omega arith)
-      within (w ∷ ws) k h = h
-
       go : (k : ℕ) → x .sent ≡ k → View x y
       go zero e = at-rest e (quiet-at o st (x .phase) (m .here) (y .location) (m .location ∙ ap (λ n. place-of (st .phases) (x .phase) + n) e))
       go (suc j) e =
           let wide : suc j < width (phase-at (st .phases) (x .phase)) = subst (λ n. n < width (phase-at (st .phases) (x .phase))) e (m .fewer) in
-          let d = drop-some (words-of (phase-at (st .phases) (x .phase))) (suc j) (within (words-of (phase-at (st .phases) (x .phase))) j wide) in
+          let d = drop-some (words-of (phase-at (st .phases) (x .phase))) (suc j) (more-words (words-of (phase-at (st .phases) (x .phase))) j wide) in
           at-work j (d .0) (d .1) e (ap (λ n. drop n (words-of (phase-at (st .phases) (x .phase)))) e ∙ d .2)
           (busy-at o st (x .phase) (m .here) j (y .location) (d .0) (d .1) wide (d .2) (m .location ∙ ap (λ n. place-of (st .phases) (x .phase) + n) e) ∙
           ap (λ n. busy-location (x .phase) (place-of (st .phases) (next-of (phase-at (st .phases) (x .phase)))) (y .location) n (d .0) (d .1)) (sym e))

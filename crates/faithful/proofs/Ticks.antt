@@ -1,8 +1,8 @@
 -- Ages in seconds and clocks in ticks are compared alike.
-use Prim.Native.Nat.{ℕ, _*_, _/_, _<_, _≤_, _∣_}
+use Prim.Native.Nat.{ℕ, _*_, _≤_, _∣_}
 use native.Mathlib.Nat.{mul-le-mul-right, mul-lt-mul-of-pos-right, div-mul-cancel, one-le-mul}
 use native.Mathlib.Omega.{arith}
-use lib.Dec.{leb, ltb, eqb}
+use lib.Dec.{leb, ltb}
 use mathlib.Core.Bool.{Bool, true, false, cond, _&&_}
 use mathlib.Core.Path.{_≡_, refl, sym, _∙_, ap, ap₂}
 use Rattle.std.specs.declared.option.Option.{Option}

@@ -21,10 +21,10 @@ use Rattle.semantics.specs.Trees.{Word, Path}
 use Rattle.semantics.specs.Scales.{lcm-all}
 use Rattle.semantics.specs.declared.state.Move.{Move}
 use Rattle.semantics.specs.declared.state.StationState.{StationState}
-use Rattle.semantics.specs.Machine.{Stance, StationMeaning, Meaning, blank-meaning, meaning-at, gear-stance, gear, net-scale, factor, geared}
-use Rattle.semantics.specs.Events.{Event, event, leaves, Arrival, External, Output, Internal, Created}
+use Rattle.semantics.specs.Machine.{Stance, Meaning, blank-meaning, meaning-at, gear-stance, gear, net-scale, factor, geared}
+use Rattle.semantics.specs.Events.{event, leaves, Arrival, External, Output, Internal, Created}
 use Rattle.semantics.specs.Net.{Net, NetState, in-stance, state-at, stance-at, busy-at, ends-now, due-at, runs-out, past-at, Passed, passed, and-then, heard, arrive, deliver, send, land, act}
-use Rattle.semantics.specs.Calls.{Answer, unless, at-zero, first-bad, bad-paths, misfit, created, make, Call, wait, word, step, Outcome, declined, answered, lowest, number, room, lowest-busy, lowest-due, lowest-past, due-before-words, waited, step-of, answer-call, answers, left-by, telling}
+use Rattle.semantics.specs.Calls.{Answer, unless, at-zero, first-bad, bad-paths, misfit, created, make, Call, wait, word, step, Outcome, declined, answered, lowest, number, room, lowest-busy, lowest-due, lowest-past, due-before-words, step-of, answer-call, answers, left-by, telling}
 
 -- both are there and R relates them, or neither is there
 abbrev pub Both : {A B : Type 0} → (A → B → Type 0) → Option A → Option B → Type 0

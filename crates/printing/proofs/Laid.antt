@@ -1,26 +1,25 @@
 -- A book that holds the printed records is read as what was printed: transitions, locations, automata, paths.
-use Prim.Native.Nat.{ℕ, zero, suc, _+_, _*_, _-_, _<_, _≤_}
+use Prim.Native.Nat.{ℕ, suc, _+_, _<_, _≤_}
 use native.Mathlib.Omega.{arith}
-use lib.ListN.{length, getD, drop, length-append}
+use lib.ListN.{length, getD, length-append}
 use mathlib.Core.Bool.{Bool}
 use mathlib.Core.List.{List, [], _∷_, _++_, map}
 use mathlib.Core.Path.{_≡_, refl, sym, _∙_, ap, ap₂, subst}
 use Rattle.std.specs.shelf.Lists.{All, joined, sumBy}
 use Rattle.std.proofs.shelf.Lists.{map-append}
 use Rattle.std.specs.declared.option.Option.{Option}
-use Rattle.book.specs.Bytes.{at, row}
-use Rattle.book.specs.Chains.{chain-of, next-index, whole-records}
+use Rattle.book.specs.Bytes.{at}
+use Rattle.book.specs.Chains.{chain-of}
 use Rattle.book.specs.declared.record.Location.{Location as LocationRow}
 use Rattle.book.specs.declared.record.Transition.{Transition as TransitionRow}
 use Rattle.book.specs.declared.record.Automaton.{Automaton as AutomatonRow}
-use Rattle.records.specs.Automaton.{automaton-in, location-in, transition-in}
 use Rattle.semantics.specs.Times.{Order}
-use Rattle.semantics.specs.Trees.{Path, Station, Transition, Location, Automaton}
+use Rattle.semantics.specs.Trees.{Path, Station, Transition, Location}
 use Rattle.semantics.specs.Scales.{station-scale}
 use Rattle.semantics.specs.Print.{place-of, print-station, station-locations}
-use Rattle.semantics.specs.Books.{marks-of, rest-of, place-in, read-transition, read-location, read-automaton, read-path}
-use Rattle.semantics.specs.Rows.{Rec, leading, chained, transition-record, location-record, location-records, transition-records, size-of, count-from, location-numbers, phase-records, automaton-record, station-records, path-record}
-use Rattle.printing.proofs.Sizes.{size-cons, sizes-cons, size-least, chained-long, locations-long, transitions-long, phases-long}
+use Rattle.semantics.specs.Books.{place-in, read-transition, read-location, read-automaton, read-path}
+use Rattle.semantics.specs.Rows.{leading, chained, transition-record, location-record, location-records, transition-records, size-of, count-from, location-numbers, phase-records, automaton-record, station-records, path-record}
+use Rattle.printing.proofs.Sizes.{size-least, chained-long, locations-long, transitions-long, phases-long}
 use Rattle.printing.proofs.Widths.{Transition-fits, Location-fits, Filled, Station-fits}
 use Rattle.printing.proofs.Rows.{Holds, holds-next, holds-automaton, holds-location, holds-transition, holds-path, Stands, here, behind, left, right, Leads, chain-leads, leads-start, place-back, chained-leads}
 

@@ -3,3 +3,4 @@ pub mod Widths
 pub mod Rows
 pub mod Laid
 pub mod ReadsBack
+pub mod Renumbered

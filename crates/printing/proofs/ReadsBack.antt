@@ -1,38 +1,34 @@
 -- The printed bytes, read as a book, give the printed tree.
-use Prim.Native.Nat.{ℕ, zero, suc, _+_, _*_, _-_, _/_, _<_, _≤_, _^_}
+use Prim.Native.Nat.{ℕ, zero, suc, _+_, _<_, _≤_, _^_}
 use native.Mathlib.Omega.{arith}
-use lib.Dec.{eqb, ltb}
 use lib.ListN.{length, getD, length-append}
 use mathlib.Core.Bool.{Bool, true, false, cond}
-use mathlib.Core.List.{List, [], _∷_, _++_, map, append-nil}
-use mathlib.Core.Path.{_≡_, refl, sym, _∙_, ap, ap₂, subst}
+use mathlib.Core.List.{List, [], _∷_, map, append-nil}
+use mathlib.Core.Path.{_≡_, refl, _∙_, ap, ap₂, subst}
 use Rattle.std.specs.Options.{valueOr}
 use Rattle.std.specs.shelf.Lists.{All}
 use Rattle.std.specs.declared.option.Option.{Option}
 use Rattle.std.specs.declared.option.Option.the-variants.{Some, None}
-use Rattle.std.specs.declared.result.Result.{Result}
 use Rattle.std.specs.declared.result.Result.the-variants.{Ok, Err}
-use Rattle.std.proofs.shelf.Elements.{all-map, all-weaker}
-use Rattle.book.specs.Bytes.{at, two, row}
+use Rattle.book.specs.Bytes.{two}
 use Rattle.book.specs.Chains.{chain-of, whole-records}
 use Rattle.book.specs.Terms.{order-byte, order-of-byte}
 use Rattle.book.specs.declared.refusal.Refusal.{Refusal}
-use Rattle.records.specs.Books.{laid-out, record-of}
-use Rattle.records.specs.Automaton.{decoded-automaton}
+use Rattle.records.specs.Books.{laid-out}
 use Rattle.records.proofs.BooksBack.{automaton-books-return}
 use Rattle.records.proofs.Numbers.{two-back}
 use Rattle.semantics.specs.Times.{Order, StepFirst, WordFirst}
 use Rattle.semantics.specs.Trees.{Path, Station, ModelNet, Automaton}
 use Rattle.semantics.specs.LawfulModels.{LawfulModel}
-use Rattle.semantics.specs.LawfulAutomata.{Lawful-automaton, LawfulAutomata}
+use Rattle.semantics.specs.LawfulAutomata.{Lawful-automaton}
 use Rattle.semantics.specs.Print.{print-station, print}
-use Rattle.semantics.specs.Books.{read-order, read-automaton, read-path, read-automata}
+use Rattle.semantics.specs.Books.{read-automaton, read-path, read-automata}
 use Rattle.semantics.specs.Rows.{Rec, leading, chained, count-from, station-records, path-record, printed-records, printed-head, printed-book}
 use Rattle.faithful.proofs.PrintedLawful.{printed-is-lawful}
 use Rattle.printing.specs.ReadsBack.{Printed-reads-back}
 use Rattle.printing.proofs.Sizes.{printed-fits}
 use Rattle.printing.proofs.Widths.{Station-fits, station-fits, Record-fits, records-fit}
-use Rattle.printing.proofs.Rows.{Holds, Reads, Stands, left, right, Leads, chain-leads, chained-leads}
+use Rattle.printing.proofs.Rows.{Holds, Reads, Stands, left, right, chain-leads, chained-leads}
 use Rattle.printing.proofs.Laid.{station-numbers, automata-read, automata-lead, paths-read}
 
 -- a record that is given was decoded

@@ -1,12 +1,11 @@
 -- What a row that decodes holds, and what chains of rows are.
-use Prim.Native.Nat.{ℕ, zero, suc, _+_, _*_, _-_, _/_, _<_, _≤_}
+use Prim.Native.Nat.{ℕ, zero, suc, _+_, _<_, _≤_}
 use native.Mathlib.Omega.{arith}
 use lib.Dec.{eqb, ltb}
 use lib.ListN.{length, getD, drop}
 use mathlib.Core.Bool.{Bool, true, false, cond, _||_}
 use mathlib.Core.List.{List, [], _∷_, _++_}
-use mathlib.Core.Path.{_≡_, refl, sym, _∙_, ap, ap₂, subst}
-use Rattle.std.specs.declared.option.Option.{Option}
+use mathlib.Core.Path.{_≡_, refl, sym, _∙_, ap, subst}
 use Rattle.std.specs.declared.option.Option.the-variants.{Some, None}
 use Rattle.std.proofs.shelf.Tests.{eq-eqb, ne-eqb, le-ltb, or-from}
 use Rattle.book.specs.Bytes.{at, two, row}
@@ -15,7 +14,6 @@ use Rattle.book.specs.declared.term.Path.{Path}
 use Rattle.book.specs.declared.record.Automaton.{Automaton}
 use Rattle.book.specs.declared.record.Location.{Location}
 use Rattle.book.specs.declared.record.Transition.{Transition}
-use Rattle.book.specs.declared.record.Record.{Record}
 use Rattle.book.specs.declared.record.AutomatonBody.{AutomatonBody}
 use Rattle.book.specs.declared.record.AutomatonBody.the-variants as bodies
 use Rattle.records.specs.Fields.{given, with-next, path-in}

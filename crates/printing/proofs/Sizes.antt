@@ -1,12 +1,11 @@
 -- How many records are printed.
 use Prim.Native.Nat.{ℕ, suc, _+_, _*_, _≤_}
 use native.Mathlib.Omega.{arith}
-use lib.ListN.{length, getD, length-append, length-map}
+use lib.ListN.{length, length-append}
 use mathlib.Core.List.{List, [], _∷_, _++_, map}
-use mathlib.Core.Path.{_≡_, refl, sym, _∙_, ap}
+use mathlib.Core.Path.{_≡_, refl, ap}
 use Rattle.std.specs.shelf.Lists.{joined, sumBy}
 use Rattle.std.proofs.shelf.Sums.{sumBy-cons, sumBy-append}
-use Rattle.book.specs.declared.record.Record.{Record}
 use Rattle.book.specs.declared.record.AutomatonBody.{AutomatonBody}
 use Rattle.book.specs.declared.record.AutomatonBody.the-variants as automata
 use Rattle.book.specs.declared.term.BookKind.the-variants as kinds
@@ -15,14 +14,12 @@ use Rattle.records.specs.Automaton.{encoded-automaton, automaton-rest}
 use Rattle.records.specs.Books.{rows, book-bytes}
 use Rattle.semantics.specs.Times.{Order}
 use Rattle.semantics.specs.Trees.{Path, Station, ModelNet, Transition, Location}
-use Rattle.semantics.specs.Scales.{station-scale}
-use Rattle.semantics.specs.Print.{place-of, print-station, station-locations, print}
+use Rattle.semantics.specs.Print.{print-station, station-locations, print}
 use Rattle.semantics.specs.LawfulAutomata.{automaton-records, automata-records}
 use Rattle.semantics.specs.LawfulAutomata as lawful
-use Rattle.semantics.specs.LawfulModels.{LawfulModel}
-use Rattle.semantics.specs.Rows.{Rec, leading, chained, transition-record, location-records, transition-records, size-of, location-numbers, phase-records, automaton-record, station-records, path-record, printed-records, printed-head, printed-book}
+use Rattle.semantics.specs.Rows.{Rec, leading, chained, transition-record, location-records, transition-records, size-of, location-numbers, phase-records, station-records, path-record, printed-records, printed-head}
 use Rattle.faithful.proofs.PrintedLawful.{printed-is-lawful}
-use Rattle.printing.specs.ReadsBack.{Fits-a-book, Printed-fits}
+use Rattle.printing.specs.ReadsBack.{Printed-fits}
 
 pub size-cons : (l : Location) (ls : List Location) → size-of (l ∷ ls) ≡ suc (length (l .transitions)) + size-of ls
 size-cons l ls = sumBy-cons (λ x. suc (length (x .transitions))) l ls

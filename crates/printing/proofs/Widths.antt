@@ -1,26 +1,24 @@
 -- Every printed record fits its fields.
-use Prim.Native.Nat.{ℕ, zero, suc, _+_, _*_, _<_, _≤_, _^_}
+use Prim.Native.Nat.{ℕ, zero, suc, _+_, _*_, _<_, _≤_}
 use native.Mathlib.Nat.{mul-le-mul-left}
 use native.Mathlib.Omega.{arith}
 use lib.ListN.{length, getD, length-append}
-use mathlib.Core.Bool.{true, false}
-use mathlib.Core.List.{List, [], _∷_, _++_, map}
-use mathlib.Core.Path.{_≡_, refl, sym, _∙_, ap, subst}
+use mathlib.Core.List.{List, [], _∷_, _++_}
 use Rattle.std.specs.shelf.Lists.{All, joined, sumBy}
 use Rattle.std.proofs.shelf.Elements.{all-append, all-weaker}
 use Rattle.std.specs.declared.option.Option.{Option}
 use Rattle.std.specs.declared.option.Option.the-variants.{Some, None}
 use Rattle.records.specs.Fits.{Byte, Two, Four, Eight, High-fits, Window-fits, Path-fits, Label-fits, Bound-fits, Automaton-fits, Fits}
-use Rattle.semantics.specs.Times.{HighEnd, Closed, Open, Absent, Window, Order}
+use Rattle.semantics.specs.Times.{HighEnd, Closed, Open, Absent, Order}
 use Rattle.semantics.specs.Trees.{Path, Phase, Station, ModelNet, Label, Silent, Hears, Sends, Transition, Location, Automaton}
 use Rattle.semantics.specs.Scales.{station-scale}
 use Rattle.semantics.specs.Limits.{Lawful-path}
-use Rattle.semantics.specs.Print.{place-of, print-phases, print-station, station-locations, print}
+use Rattle.semantics.specs.Print.{place-of, print-phases, print-station, station-locations}
 use Rattle.semantics.specs.LawfulAutomata.{Lawful-label, Lawful-transition, Lawful-location, Lawful-automaton}
 use Rattle.semantics.specs.LawfulAutomata as lawful
-use Rattle.semantics.specs.LawfulModels.{LawfulModel}
-use Rattle.semantics.specs.Rows.{Rec, leading, chained, transition-record, location-record, location-records, transition-records, size-of, count-from, location-numbers, phase-records, automaton-record, station-records, path-record, printed-records}
-use Rattle.printing.proofs.Sizes.{size-cons, sizes-cons, size-least, stations-long, phases-long}
+use Rattle.semantics.specs.Rows.{Rec, leading, chained, transition-record, location-records, transition-records, size-of, count-from, location-numbers, phase-records, station-records, path-record, printed-records}
+use Rattle.faithful.proofs.Law.{all-parts}
+use Rattle.printing.proofs.Sizes.{size-cons, sizes-cons, size-least, chained-long, phases-long}
 
 abbrev pub Record-fits : Rec → Type 0
 Record-fits x = Fits Automaton-fits x
@@ -80,10 +78,6 @@ location-fits a few l h = record {
   bound-fits = bound-small (a .scale) few (l .bound) (h .bound-fits);
   transitions-fit = all-weaker _ _ (transition-fits (a .scale) few (length (a .locations)) (l .bound)) (l .transitions) (h .transitions-fit);
 }
-
-all-parts : {A : Type 0} (P : A → Type 0) (xs ys : List A) → All P (xs ++ ys) → All P xs × All P ys
-all-parts P [] ys h = (tt, h)
-all-parts P (x ∷ xs) ys h = let r = all-parts P xs ys (h .1) in ((h .0, r .0), r .1)
 
 all-blocks : {A : Type 0} (P : A → Type 0) (bs : List (List A)) → All P (joined (λ b. b) bs) → All (All P) bs
 all-blocks P [] h = tt
@@ -205,12 +199,7 @@ module _ (B : ℕ) (small : B < 65536) where
   records-fit m few h stations paths =
       let body = station-records (m .order) 1 (m .stations) in
       let a = length-append body (chained path-record (suc (length body)) (m .paths)) in
-      let long : (k : ℕ) (xs : List Path) → length (chained path-record k xs) ≡ length xs = chained-paths in
-      let b = long (suc (length body)) (m .paths) in
+      let b = chained-long path-record (m .paths) (suc (length body)) in
       all-append Record-fits body (chained path-record (suc (length body)) (m .paths))
       (stations-fit (m .order) (m .stations) 1 (omega arith) stations)
       (chained-fit path-record (Lawful-path (length (m .stations))) (λ next p s ok. (fits-two next s, path-fits (length (m .stations)) few p ok)) (m .paths) (suc (length body)) (omega arith) paths)
-    where
-      chained-paths : (k : ℕ) (xs : List Path) → length (chained path-record k xs) ≡ length xs
-      chained-paths k [] = refl
-      chained-paths k (x ∷ xs) = ap suc (chained-paths (suc k) xs)

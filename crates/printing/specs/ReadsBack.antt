@@ -1,5 +1,5 @@
 -- The bytes of a printed book: how many records they hold, and what they are read as.
-use Prim.Native.Nat.{ℕ, _+_, _*_, _≤_}
+use Prim.Native.Nat.{_+_, _*_, _≤_}
 use lib.ListN.{length}
 use mathlib.Core.Path.{_≡_}
 use Rattle.semantics.specs.Trees.{ModelNet}
