@@ -24,7 +24,7 @@ use Rattle.semantics.specs.Net.{Net, NetState, in-stance, state-at, stance-at}
 use Rattle.semantics.specs.Calls.{Call, bad-paths, created, left-by, telling}
 use Rattle.semantics.specs.Runs.{Run}
 use Rattle.semantics.specs.LawfulAutomata.{Lawful-automaton, LawfulAutomata}
-use Rattle.semantics.specs.AutomatonRules.{AutomatonState, rules-of}
+use Rattle.semantics.specs.AutomatonRules.{AutomatonRun, AutomatonState, rules-of}
 use Rattle.semantics.specs.OneTime.{One-time}
 use Rattle.semantics.specs.Faithful.{automata-made, Is-time, Automata-stand, automaton-start}
 use Rattle.semantics.proofs.OneTime.{one-time}
@@ -35,7 +35,9 @@ use Rattle.stepping.specs.AutomatonNets.{net-of, left, openings, Automata-at, 
 use Rattle.stepping.proofs.Simulation.{Follows-suit}
 use Rattle.stepping.proofs.Bridge.{In-parts, left-stood, obeyed-runs, runs-obeyed}
 use Rattle.stepping.proofs.Geared.{paths-good, scaled, long, gear-at, some-factor, steady, start-at, start-whole, makes, telling-at}
-use Rattle.stepping.proofs.AutomatonSuits.{zero-within, Sited, automaton-forth, automaton-back}
+use Rattle.stepping.proofs.Settled.{run-one}
+use Rattle.stepping.specs.Determined.{One-run}
+use Rattle.stepping.proofs.AutomatonSuits.{In-place, automaton-settled, zero-within, Sited, automaton-forth, automaton-back}
 
 module _ (a : AutomatonNet) (law : LawfulAutomata a) (q : ℕ) (some : 1 ≤ q) where
   abbrev ms : Meaning
@@ -202,3 +204,10 @@ module _ (a : AutomatonNet) (law : LawfulAutomata a) (q : ℕ) (some : 1 ≤ q) 
                   (t .0, to-at (left-by (net-of a q) (a .paths) cs (left a q calls)) τ (t .1));
             };
       }
+
+  pub determined : (calls : List Call) (σ : ℕ → AutomatonState) → Automata-at a q (left a q calls) σ → One-run (AutomatonRun a) σ
+  determined calls σ stood acts es fs τ ρ x y =
+      let r = left-stood (geared ms) q (a .order) (a .paths) some (steady ms sound) (rules-of a) S forth back calls start (opening-state a) (start-whole ms sound (a .paths) (a .order) q) start-stands in
+      let here = of-at (left a q calls) σ (r .1 .0) (r .1 .1) stood in
+      run-one (rules-of a) (length (a .automata)) (λ i. In-place (at i)) (λ i k. automaton-settled L (at i) (law-at i k) (factor-at i k) q some) (a .order) (a .paths) acts
+      (λ i k. let h = here i (in-net i k) in record { here = h .here; proper = h .clock .left; within = h .within }) x y

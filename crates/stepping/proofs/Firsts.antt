@@ -27,7 +27,7 @@ pub first-same : {A : Type 0} (f g : A → Bool) (goal : A → ℕ) (xs : List A
 first-same f g goal [] h = refl
 first-same f g goal (x ∷ xs) h = ap₂ (λ b r. cond b (Some (goal x)) r) (h .0) (first-same f g goal xs (h .1))
 
-none-fits : {A : Type 0} (fits : A → Bool) (Q : A → Type 0) (xs : List A) → All (λ x. fits x ≡ false) xs → Any (λ x. (fits x ≡ true) × Q x) xs → ⊥
+pub none-fits : {A : Type 0} (fits : A → Bool) (Q : A → Type 0) (xs : List A) → All (λ x. fits x ≡ false) xs → Any (λ x. (fits x ≡ true) × Q x) xs → ⊥
 none-fits fits Q [] e h = h
 none-fits fits Q (x ∷ xs) e (inl h) = true-not-false (sym (h .0) ∙ e .0)
 none-fits fits Q (x ∷ xs) e (inr h) = none-fits fits Q xs (e .1) h

@@ -12,3 +12,4 @@ pub mod AutomatonSuits
 pub mod AutomatonSteps
 pub mod Declined
 pub mod AnyMachine
+pub mod Settled

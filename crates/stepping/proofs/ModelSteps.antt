@@ -23,7 +23,7 @@ use Rattle.semantics.specs.Net.{Net, NetState, in-stance, state-at, stance-at}
 use Rattle.semantics.specs.Calls.{Call, bad-paths, created, left-by, telling}
 use Rattle.semantics.specs.Runs.{Run}
 use Rattle.semantics.specs.LawfulModels.{Lawful-station, LawfulModel}
-use Rattle.semantics.specs.ModelRules.{ModelState, fresh, rules-of}
+use Rattle.semantics.specs.ModelRules.{ModelRun, ModelState, fresh, rules-of}
 use Rattle.semantics.specs.OneTime.{One-time}
 use Rattle.semantics.specs.Faithful.{model-made, Is-time, Model-stands, model-start}
 use Rattle.semantics.proofs.Sound.{stance-numbers, meanings-sound}
@@ -33,7 +33,9 @@ use Rattle.stepping.specs.ModelNets.{net-of, left, openings, Model-steps}
 use Rattle.stepping.proofs.Simulation.{Follows-suit}
 use Rattle.stepping.proofs.Bridge.{In-parts, left-stood, obeyed-runs, runs-obeyed}
 use Rattle.stepping.proofs.Geared.{paths-good, scaled, long, gear-at, exact, some-factor, steady, start-at, start-whole, makes, telling-at}
-use Rattle.stepping.proofs.ModelSuits.{stance-phase, stance-sent, Sits-at, fresh-sits, at-stance, model-forth, model-back}
+use Rattle.stepping.proofs.Settled.{run-one}
+use Rattle.stepping.specs.Determined.{One-run}
+use Rattle.stepping.proofs.ModelSuits.{In-place, model-settled, stance-phase, stance-sent, Sits-at, fresh-sits, at-stance, model-forth, model-back}
 
 module _ (m : ModelNet) (law : LawfulModel m) (q : ℕ) (some : 1 ≤ q) where
   abbrev ms : Meaning
@@ -196,3 +198,10 @@ module _ (m : ModelNet) (law : LawfulModel m) (q : ℕ) (some : 1 ≤ q) where
                   (t .0, to-stands (left-by (net-of m q) (m .paths) cs (left m q calls)) τ (t .1));
             };
       }
+
+  pub determined : (calls : List Call) (σ : ℕ → ModelState) → Model-stands m q (left m q calls) σ → One-run (ModelRun m) σ
+  determined calls σ stood acts es fs τ ρ x y =
+      let r = left-stood (geared ms) q (m .order) (m .paths) some (steady ms sound) (rules-of m) S forth back calls start (λ i. fresh (st i .opening)) (start-whole ms sound (m .paths) (m .order) q) start-stands in
+      let here = of-stands (left m q calls) σ (r .1 .0) (r .1 .1) stood in
+      run-one (rules-of m) (length (m .stations)) (λ i. In-place (st i)) (λ i k. model-settled (m .order) L (st i) (law-at i k) L-some (exact-at i k) (factor-at i k) q some) (m .order) (m .paths) acts
+      (λ i k. let h = here i (in-net i k) in record { here = h .here; proper = h .age .left }) x y

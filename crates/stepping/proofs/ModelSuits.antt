@@ -37,7 +37,8 @@ use Rattle.semantics.proofs.Sound.{stance-numbers}
 use Rattle.stepping.specs.StationRules.{station-rules, parts-in}
 use Rattle.stepping.proofs.Simulation.{Follows-suit}
 use Rattle.stepping.proofs.Bridge.{In-parts}
-use Rattle.stepping.proofs.Firsts.{any-at, first-same, first-found, first-none, none-first, only-first}
+use Rattle.stepping.proofs.Settled.{Settled}
+use Rattle.stepping.proofs.Firsts.{any-at, first-same, first-found, first-none, none-first, none-fits, only-first}
 use Rattle.stepping.proofs.Scaled.{all-left, all-joined, In-ticks, ends-alike, lasts-alike, whole-parts, later-one}
 
 -- written times are one with themselves
@@ -110,6 +111,11 @@ pub record Sits-at (L : ℕ) (st : Station) (q : ℕ) (x : StationState) (y : Mo
   pub fewer : 0 < y .sent → y .sent < length (words-of (phase-at (st .phases) (y .phase)))
   pub stance : x .stance ≡ stance-number (y .phase) (y .sent)
   pub age : One-time (y .age) (fraction (x .elapsed) (q * L))
+
+-- nothing is left to choose in a phase that is there
+pub record In-place (st : Station) (y : ModelState) : Type 0 where
+  pub here : y .phase < length (st .phases)
+  pub proper : Proper (y .age)
 
 module _ (o : Order) (L : ℕ) (st : Station) (law : Lawful-station o st) (scaled : 1 ≤ L)
     (exact : factor L (station-meaning o st) * station-scale st ≡ L) (geared : 1 ≤ factor L (station-meaning o st)) (q : ℕ) (few : 1 ≤ q) where
@@ -386,4 +392,44 @@ module _ (o : Order) (L : ℕ) (st : Station) (law : Lawful-station o st) (scale
     hears = hears-back;
     deaf = deaf-back;
     moves = moves-back;
+  }
+
+  fresh-in-place : (i : ℕ) → i < length (st .phases) → In-place st (fresh i)
+  fresh-in-place i l = record { here = l; proper = omega arith }
+
+  sends-in-place : (x : ModelState) (next : ℕ) (ws : List Word) (w : Option Word) (y : ModelState) → next < length (st .phases) → In-place st x → Sends-next x next ws w y → In-place st y
+  sends-in-place x next [] w y l g h = subst (In-place st) (sym (h .1)) (fresh-in-place next l)
+  sends-in-place x next (a ∷ []) w y l g h = subst (In-place st) (sym (h .1)) (fresh-in-place next l)
+  sends-in-place x next (a ∷ b ∷ ws) w y l g h = subst (In-place st) (sym (h .1)) (record { here = g .here; proper = g .proper })
+
+  leaves-in-place : (k : Phase) (x : ModelState) (w : Option Word) (y : ModelState) → Next-here (length (st .phases)) k → In-place st x → Leaves k x w y → In-place st y
+  leaves-in-place (endless edges) x w y l g h = absurd h
+  leaves-in-place (lasting life words next edges) x w y l g h = sends-in-place x next (drop (x .sent) words) w y l g h
+
+  abbrev fits : ModelState → ℕ → ℕ → Edge → Bool
+  fits x p v = edge-fits o (lifetime-of (at (x .phase))) p v (x .age)
+
+  abbrev Goes : ModelState → Edge → Type 0
+  Goes y k = y ≡ fresh (k .goal)
+
+  apart-at : (x : ModelState) (p v : ℕ) → In-place st x → At-most-one (fits x p v) (edges-of (at (x .phase)))
+  apart-at x p v g = phase-law (x .phase) (g .here) .edges-apart p v (x .age) (g .proper)
+
+  deaf-never : (x y : ModelState) (p v : ℕ) → M .Hears x p v y → M .Deaf x p v → ⊥
+  deaf-never x y p v h (inl z) = let e = h .0 in omega arith
+  deaf-never x y p v h (inr z) = none-fits (fits x p v) (Goes y) (edges-of (at (x .phase))) z (h .1)
+
+  pub model-settled : Settled M (In-place st)
+  model-settled = record {
+    later = λ d x p may g. record { here = g .here; proper = one-le-mul (g .proper) (one-le-mul p scaled) };
+    hears-good = λ x y p v g h.
+        let r = only-first (fits x p v) (λ k. k .goal) blank-edge (Goes y) (edges-of (at (x .phase))) (apart-at x p v g) (h .1) in
+        subst (In-place st) (sym (r .holds)) (fresh-in-place _ (goal-here x (r .place) (g .here) (r .within)));
+    hears-one = λ x y z p v g h k.
+        let r = only-first (fits x p v) (λ k. k .goal) blank-edge (Goes y) (edges-of (at (x .phase))) (apart-at x p v g) (h .1) in
+        let t = only-first (fits x p v) (λ k. k .goal) blank-edge (Goes z) (edges-of (at (x .phase))) (apart-at x p v g) (k .1) in
+        r .holds ∙ (ap fresh (inner (sym (r .is-first) ∙ t .is-first)) ∙ sym (t .holds));
+    not-both = λ x y p v g h k. deaf-never x y p v h k;
+    moves-good = λ x y w r g h. leaves-in-place (at (x .phase)) x w y (phase-law (x .phase) (g .here) .next-here) g h;
+    moves-one = λ x y z w u r g h k. sends-only x (next-of (at (x .phase))) (drop (x .sent) (words-of (at (x .phase)))) w u y z (leaves-so (at (x .phase)) x w y h) (leaves-so (at (x .phase)) x u z k);
   }
