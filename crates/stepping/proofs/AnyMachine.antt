@@ -19,7 +19,7 @@ use Rattle.stepping.proofs.Geared.{long, gear-at, steady, start-whole}
 use Rattle.stepping.proofs.Declined.{declines-exactly}
 
 -- rules follow themselves
-forth : (q : ℕ) (m : StationMeaning) → Follows-suit (In-parts q) (station-rules q m) (station-rules q m) (λ x y. y ≡ x)
+pub forth : (q : ℕ) (m : StationMeaning) → Follows-suit (In-parts q) (station-rules q m) (station-rules q m) (λ x y. y ≡ x)
 forth q m = record {
   busy = λ x y s. sym (ap (station-rules q m .busy) s);
   due = λ x y s. sym (ap (station-rules q m .due) s);

@@ -36,6 +36,9 @@ use Rattle.stepping.proofs.Simulation.{Follows-suit}
 use Rattle.stepping.proofs.Bridge.{In-parts, left-stood, obeyed-runs, runs-obeyed}
 use Rattle.stepping.proofs.Geared.{paths-good, scaled, long, gear-at, some-factor, steady, start-at, start-whole, makes, telling-at}
 use Rattle.stepping.proofs.Settled.{run-one}
+use Rattle.stepping.specs.Progress.{Goes-on}
+use Rattle.stepping.proofs.Timely.{left-sure}
+use Rattle.stepping.proofs.Progress.{progress as goes-on-by, start-sure}
 use Rattle.stepping.specs.Determined.{One-run}
 use Rattle.stepping.proofs.AutomatonSuits.{In-place, automaton-settled, zero-within, Sited, automaton-forth, automaton-back}
 
@@ -211,3 +214,11 @@ module _ (a : AutomatonNet) (law : LawfulAutomata a) (q : ℕ) (some : 1 ≤ q) 
       let here = of-at (left a q calls) σ (r .1 .0) (r .1 .1) stood in
       run-one (rules-of a) (length (a .automata)) (λ i. In-place (at i)) (λ i k. automaton-settled L (at i) (law-at i k) (factor-at i k) q some) (a .order) (a .paths) acts
       (λ i k. let h = here i (in-net i k) in record { here = h .here; proper = h .clock .left; within = h .within }) x y
+
+  pub progress : (calls : List Call) (σ : ℕ → AutomatonState) → Automata-at a q (left a q calls) σ → Goes-on (AutomatonRun a) σ
+  progress calls σ stood =
+      let r = left-stood (geared ms) q (a .order) (a .paths) some (steady ms sound) (rules-of a) S forth back calls start (opening-state a) (start-whole ms sound (a .paths) (a .order) q) start-stands in
+      let here = of-at (left a q calls) σ (r .1 .0) (r .1 .1) stood in
+      subst (λ k. Goes-on (Run (rules-of a) k (a .order) (a .paths)) σ) all
+      (goes-on-by (geared ms) q (a .order) (a .paths) some (steady ms sound) (rules-of a) S forth fine (left a q calls)
+      (left-sure (geared ms) q (steady ms sound) (a .order) (a .paths) calls start (start-sure ms sound (a .paths) (a .order) q)) σ here)

@@ -13,3 +13,5 @@ pub mod AutomatonSteps
 pub mod Declined
 pub mod AnyMachine
 pub mod Settled
+pub mod Timely
+pub mod Progress

@@ -34,6 +34,9 @@ use Rattle.stepping.proofs.Simulation.{Follows-suit}
 use Rattle.stepping.proofs.Bridge.{In-parts, left-stood, obeyed-runs, runs-obeyed}
 use Rattle.stepping.proofs.Geared.{paths-good, scaled, long, gear-at, exact, some-factor, steady, start-at, start-whole, makes, telling-at}
 use Rattle.stepping.proofs.Settled.{run-one}
+use Rattle.stepping.specs.Progress.{Goes-on}
+use Rattle.stepping.proofs.Timely.{left-sure}
+use Rattle.stepping.proofs.Progress.{progress as goes-on-by, start-sure}
 use Rattle.stepping.specs.Determined.{One-run}
 use Rattle.stepping.proofs.ModelSuits.{In-place, model-settled, stance-phase, stance-sent, Sits-at, fresh-sits, at-stance, model-forth, model-back}
 
@@ -205,3 +208,11 @@ module _ (m : ModelNet) (law : LawfulModel m) (q : ℕ) (some : 1 ≤ q) where
       let here = of-stands (left m q calls) σ (r .1 .0) (r .1 .1) stood in
       run-one (rules-of m) (length (m .stations)) (λ i. In-place (st i)) (λ i k. model-settled (m .order) L (st i) (law-at i k) L-some (exact-at i k) (factor-at i k) q some) (m .order) (m .paths) acts
       (λ i k. let h = here i (in-net i k) in record { here = h .here; proper = h .age .left }) x y
+
+  pub progress : (calls : List Call) (σ : ℕ → ModelState) → Model-stands m q (left m q calls) σ → Goes-on (ModelRun m) σ
+  progress calls σ stood =
+      let r = left-stood (geared ms) q (m .order) (m .paths) some (steady ms sound) (rules-of m) S forth back calls start (λ i. fresh (st i .opening)) (start-whole ms sound (m .paths) (m .order) q) start-stands in
+      let here = of-stands (left m q calls) σ (r .1 .0) (r .1 .1) stood in
+      subst (λ k. Goes-on (Run (rules-of m) k (m .order) (m .paths)) σ) all
+      (goes-on-by (geared ms) q (m .order) (m .paths) some (steady ms sound) (rules-of m) S forth fine (left m q calls)
+      (left-sure (geared ms) q (steady ms sound) (m .order) (m .paths) calls start (start-sure ms sound (m .paths) (m .order) q)) σ here)

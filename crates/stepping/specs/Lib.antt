@@ -5,3 +5,4 @@ pub mod AutomatonNets
 pub mod Declines
 pub mod AnyMachine
 pub mod Determined
+pub mod Progress
