@@ -1,5 +1,5 @@
 -- An automaton's meaning, geared, goes as the automaton goes by its rules, and the other way round.
-use Prim.Native.Nat.{ℕ, zero, suc, _+_, _*_, _/_, _<_, _≤_}
+use Prim.Native.Nat.{ℕ, _+_, _*_, _<_, _≤_}
 use native.Mathlib.Nat.{one-le-mul}
 use native.Mathlib.Omega.{arith}
 use lib.Dec.{leb, eqb}
@@ -7,7 +7,7 @@ use lib.ListN.{length, getD}
 use mathlib.Core.Bool.{Bool, true, false, cond, not, _&&_}
 use mathlib.Core.List.{List, [], _∷_, _++_}
 use mathlib.Core.Logic.{_⊎_, inl, inr}
-use mathlib.Core.Path.{_≡_, refl, sym, _∙_, ap, ap₂, subst}
+use mathlib.Core.Path.{_≡_, refl, sym, _∙_, ap, subst}
 use Rattle.std.specs.declared.option.Option.{Option}
 use Rattle.std.specs.declared.option.Option.the-variants.{Some, None}
 use Rattle.std.specs.Options.{mapped}
@@ -15,21 +15,21 @@ use Rattle.std.specs.shelf.Lists.{All}
 use Rattle.std.proofs.shelf.Elements.{all-getD, all-weaker}
 use Rattle.std.proofs.shelf.Tests.{and-parts, le-leb, eqb-true}
 use Rattle.semantics.specs.Times.{Fraction, fraction, Proper, same-time, plus, over, whole, zero-time, inside}
-use Rattle.semantics.specs.Trees.{Word, Label, Silent, Hears, Sends, Transition, Location, location-at, blank-location, Automaton}
+use Rattle.semantics.specs.Trees.{Word, Label, Silent, Hears, Sends, Transition, location-at, blank-location, Automaton}
 use Rattle.semantics.specs.Fits.{label-fits, transition-fits, within-bound, first}
 use Rattle.semantics.specs.Print.{from-on}
-use Rattle.semantics.specs.Machine.{move-to, Stance, StationMeaning, gear, gear-stance, factor}
+use Rattle.semantics.specs.Machine.{move-to, gear, factor}
 use Rattle.semantics.specs.declared.state.Move.{Move}
 use Rattle.semantics.specs.declared.state.StationState.{StationState}
 use Rattle.semantics.specs.Meanings.{label-move, move-among, location-stance, automaton-meaning}
 use Rattle.semantics.specs.Net.{in-stance}
 use Rattle.semantics.specs.Runs.{Rules}
-use Rattle.semantics.specs.LawfulAutomata.{is-move, Hears-only, Printed-move, Lawful-moves, Lawful-transition, Lawful-location, Lawful-automaton}
+use Rattle.semantics.specs.LawfulAutomata.{is-move, Hears-only, Lawful-moves, Lawful-transition, Lawful-location, Lawful-automaton}
 use Rattle.semantics.specs.ModelRules.{Any}
 use Rattle.semantics.specs.AutomatonRules.{AutomatonState, at-bound, Moves-with, through, automaton-rules}
 use Rattle.semantics.specs.OneTime.{One-time}
 use Rattle.semantics.proofs.OneTime.{one-time}
-use Rattle.semantics.proofs.Options.{some-not-none, true-not-false, inner}
+use Rattle.semantics.proofs.Options.{true-not-false, inner}
 use Rattle.stepping.specs.StationRules.{station-rules, parts-in}
 use Rattle.stepping.proofs.Simulation.{Follows-suit}
 use Rattle.stepping.proofs.Bridge.{In-parts}

@@ -4,14 +4,14 @@ use native.Mathlib.Omega.{arith}
 use lib.ListN.{length, getD}
 use mathlib.Core.Bool.{Bool, true, false, cond}
 use mathlib.Core.List.{List, [], _∷_}
-use mathlib.Core.Logic.{_⊎_, inl, inr}
+use mathlib.Core.Logic.{inl, inr}
 use mathlib.Core.Path.{_≡_, refl, sym, _∙_, ap, ap₂}
 use Rattle.std.specs.declared.option.Option.the-variants.{Some, None}
 use Rattle.std.specs.shelf.Lists.{All}
 use Rattle.semantics.specs.Fits.{first}
 use Rattle.semantics.specs.Limits.{At-most-one}
 use Rattle.semantics.specs.ModelRules.{Any}
-use Rattle.semantics.proofs.Options.{some-not-none, true-not-false, inner}
+use Rattle.semantics.proofs.Options.{some-not-none, true-not-false}
 
 pub any-at : {A : Type 0} (P : A → Type 0) (d : A) (xs : List A) (k : ℕ) → k < length xs → P (getD xs k d) → Any P xs
 any-at P d [] k l h = absurd (omega arith)

@@ -1,25 +1,24 @@
 -- Model nets step by the model's rules.
-use Prim.Native.Nat.{ℕ, zero, suc, pred, _+_, _*_, _/_, _<_, _≤_}
+use Prim.Native.Nat.{ℕ, suc, pred, _*_, _<_, _≤_}
 use native.Mathlib.Nat.{one-le-mul, suc-inj}
 use native.Mathlib.Omega.{arith}
-use lib.ListN.{length, getD, length-map}
+use lib.ListN.{length, length-map}
 use mathlib.Core.List.{List, [], _∷_, map}
 use mathlib.Core.Path.{_≡_, refl, sym, _∙_, ap, ap₂, subst, subst₂}
 use Rattle.std.specs.declared.option.Option.the-variants.{None}
 use Rattle.std.specs.declared.result.Result.the-variants.{Ok}
-use Rattle.std.specs.shelf.Lists.{All}
 use Rattle.std.proofs.shelf.Elements.{all-getD}
 use Rattle.std.proofs.shelf.Lists.{getD-map}
 use Rattle.std.proofs.shelf.Lanes.{map-map}
 use Rattle.std.proofs.shelf.Tests.{eq-eqb, eqb-true}
-use Rattle.semantics.specs.Times.{Fraction, fraction, Proper, Order}
+use Rattle.semantics.specs.Times.{Fraction, fraction}
 use Rattle.semantics.specs.Trees.{Station, ModelNet, station-at, blank-station, words-of, phase-at}
 use Rattle.semantics.specs.Scales.{lcm-all, station-scale, model-scale}
 use Rattle.semantics.specs.Machine.{StationMeaning, Meaning, meaning-at, blank-meaning, Sound, net-scale, factor, gear, gear-stance, geared}
 use Rattle.semantics.specs.declared.state.StationState.{StationState}
-use Rattle.semantics.specs.Meanings.{stance-number, phase-of, sent-of, model-stance, station-meaning, model-meaning}
-use Rattle.semantics.specs.Events.{Event, event, Created}
-use Rattle.semantics.specs.Net.{Net, NetState, in-stance, state-at, stance-at}
+use Rattle.semantics.specs.Meanings.{stance-number, model-stance, station-meaning, model-meaning}
+use Rattle.semantics.specs.Events.{event, Created}
+use Rattle.semantics.specs.Net.{NetState, in-stance, state-at, stance-at}
 use Rattle.semantics.specs.Calls.{Call, bad-paths, created, left-by, telling}
 use Rattle.semantics.specs.Runs.{Run}
 use Rattle.semantics.specs.LawfulModels.{Lawful-station, LawfulModel}
@@ -28,7 +27,7 @@ use Rattle.semantics.specs.OneTime.{One-time}
 use Rattle.semantics.specs.Faithful.{model-made, Is-time, Model-stands, model-start}
 use Rattle.semantics.proofs.Sound.{stance-numbers, meanings-sound}
 use Rattle.stepping.specs.StationRules.{station-rules}
-use Rattle.stepping.specs.Obeys.{acts-of, Steps-by}
+use Rattle.stepping.specs.Obeys.{acts-of}
 use Rattle.stepping.specs.ModelNets.{net-of, left, openings, Model-steps}
 use Rattle.stepping.proofs.Simulation.{Follows-suit}
 use Rattle.stepping.proofs.Bridge.{In-parts, left-stood, obeyed-runs, runs-obeyed}

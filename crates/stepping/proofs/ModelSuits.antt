@@ -1,34 +1,33 @@
 -- A model station's meaning, geared, goes as the station goes by the model's rules, and the other way round.
-use Prim.Native.Nat.{ℕ, zero, suc, _+_, _*_, _-_, _/_, _%_, _<_, _≤_, _∣_}
+use Prim.Native.Nat.{ℕ, zero, suc, _+_, _*_, _<_, _≤_, _∣_}
 use native.Mathlib.Nat.{one-le-mul}
 use native.Mathlib.Omega.{arith}
-use lib.Dec.{leb, ltb, eqb}
+use lib.Dec.{ltb, eqb}
 use lib.ListN.{length, getD, drop, length-drop}
 use mathlib.Core.Bool.{Bool, true, false, cond, not, _&&_}
 use mathlib.Core.List.{List, [], _∷_}
 use mathlib.Core.Logic.{_⊎_, inl, inr}
-use mathlib.Core.Path.{_≡_, refl, sym, _∙_, ap, ap₂, subst, subst₂}
+use mathlib.Core.Path.{_≡_, refl, sym, _∙_, ap, ap₂, subst}
 use Rattle.std.specs.declared.option.Option.{Option}
 use Rattle.std.specs.declared.option.Option.the-variants.{Some, None}
-use Rattle.std.specs.Options.{mapped}
 use Rattle.std.specs.shelf.Lists.{All}
 use Rattle.std.proofs.shelf.Elements.{all-getD, all-weaker}
-use Rattle.std.proofs.shelf.Tests.{and-parts, lt-ltb, ne-eqb}
+use Rattle.std.proofs.shelf.Tests.{lt-ltb, ne-eqb}
 use Rattle.records.specs.Fits.{High-fits}
 use Rattle.semantics.specs.Times.{Fraction, fraction, Proper, Order, HighEnd, Closed, Open, Absent, plus, over, zero-time}
 use Rattle.semantics.specs.Trees.{Word, Edge, Phase, endless, lasting, lifetime-of, words-of, edges-of, next-of, phase-at, blank-phase, Station}
-use Rattle.semantics.specs.Scales.{station-scale, phase-denominators, life-denominators, edge-denominators}
+use Rattle.semantics.specs.Scales.{station-scale, phase-denominators, life-denominators}
 use Rattle.semantics.specs.Fits.{edge-fits, first, within-bound}
-use Rattle.semantics.specs.Machine.{move-to, Stance, StationMeaning, gear, gear-stance, factor}
+use Rattle.semantics.specs.Machine.{move-to, Stance, gear, gear-stance, factor}
 use Rattle.semantics.specs.declared.state.Move.{Move}
 use Rattle.semantics.specs.declared.state.StationState.{StationState}
-use Rattle.semantics.specs.Meanings.{stance-number, phase-of, sent-of, move-with, first-move, quiet-stance, busy-stance, model-stance, station-meaning}
+use Rattle.semantics.specs.Meanings.{stance-number, phase-of, sent-of, move-with, first-move, model-stance, station-meaning}
 use Rattle.semantics.specs.Net.{in-stance}
 use Rattle.semantics.specs.Runs.{Rules}
 use Rattle.semantics.specs.Limits.{At-most-one}
 use Rattle.semantics.specs.LawfulModels.{Small-time, Small-life, Lawful-edge, Next-here, Lawful-phase, Lawful-station}
 use Rattle.semantics.specs.AutomatonRules.{at-bound}
-use Rattle.semantics.specs.ModelRules.{Any, ModelState, fresh, lasts, is-over, Sends-next, Leaves, model-rules}
+use Rattle.semantics.specs.ModelRules.{ModelState, fresh, lasts, is-over, Sends-next, Leaves, model-rules}
 use Rattle.semantics.specs.OneTime.{One-time, One-life, One-end, One-edge}
 use Rattle.semantics.proofs.OneTime.{one-time}
 use Rattle.semantics.proofs.Options.{some-not-none, true-not-false, inner}
@@ -39,7 +38,7 @@ use Rattle.stepping.proofs.Simulation.{Follows-suit}
 use Rattle.stepping.proofs.Bridge.{In-parts}
 use Rattle.stepping.proofs.Settled.{Settled}
 use Rattle.stepping.proofs.Firsts.{any-at, first-same, first-found, first-none, none-first, none-fits, only-first}
-use Rattle.stepping.proofs.Scaled.{all-left, all-joined, In-ticks, ends-alike, lasts-alike, whole-parts, later-one}
+use Rattle.stepping.proofs.Scaled.{all-left, all-joined, In-ticks, ends-alike, lasts-alike, later-one}
 
 -- written times are one with themselves
 itself-one : (t : Fraction) → Small-time t → One-time t t

@@ -3,8 +3,8 @@ use Prim.Native.Nat.{ℕ, _<_, _≤_}
 use native.Mathlib.Omega.{arith}
 use lib.ListN.{length}
 use mathlib.Core.Bool.{false}
-use mathlib.Core.List.{List, [], _∷_, _++_}
-use mathlib.Core.Logic.{_⊎_, inl, inr}
+use mathlib.Core.List.{List, [], _++_}
+use mathlib.Core.Logic.{inl, inr}
 use mathlib.Core.Path.{_≡_, refl, sym, _∙_, ap, subst}
 use Rattle.std.specs.declared.option.Option.the-variants.{None}
 use Rattle.semantics.specs.Times.{fraction, Order}
@@ -15,7 +15,7 @@ use Rattle.semantics.specs.Net.{NetState, state-at, stance-at, runs-out}
 use Rattle.semantics.specs.Calls.{make, bad-paths}
 use Rattle.semantics.specs.Runs.{Rules, Run, ended, goes-on}
 use Rattle.stepping.specs.StationRules.{station-rules, NetRun}
-use Rattle.stepping.specs.AnyMachine.{Reached, at-first, then-called, Reached-over}
+use Rattle.stepping.specs.AnyMachine.{at-first, then-called, Reached-over}
 use Rattle.stepping.specs.Progress.{Goes-on}
 use Rattle.stepping.proofs.Simulation.{Follows-suit, does-too}
 use Rattle.stepping.proofs.Bridge.{In-parts}
@@ -28,13 +28,14 @@ module _ (ms : Meaning) (q : ℕ) (o : Order) (paths : List Path) (some : 1 ≤ 
     (suits : (i : ℕ) → i < length ms → Follows-suit (In-parts q) (station-rules q (meaning-at ms i)) (B i) (S i)) where
   pub progress : bad-paths (length ms) paths ≡ None → (s : NetState) → Sure ms q steady o s → (σ : ℕ → X) → ((i : ℕ) → i < length ms → S i (state-at (s .stations) i) (σ i)) →
       Goes-on (Run B (length ms) o paths) σ
-  progress fine s sure σ stood = elim (net-goes-on ms q steady o some paths fine s sure)
-      [ inl x ↦
-          (let t = does-too (In-parts q) (λ i. station-rules q (meaning-at ms i)) B (length ms) S suits o paths σ stood tt (x .1 .1) in
-          inl (x .0 ++ [], (t .0, goes-on (t .1 .0) ended)))
-      | inr x ↦
-          (let t = does-too (In-parts q) (λ i. station-rules q (meaning-at ms i)) B (length ms) S suits o paths σ stood refl (x .1) in
-          inr (fraction 1 q, (some, (omega arith, (t .0, goes-on (t .1 .0) ended))))) ]
+  progress fine s sure σ stood = elim (net-goes-on ms q steady o some paths fine s sure) [
+    | inl x ↦
+        (let t = does-too (In-parts q) (λ i. station-rules q (meaning-at ms i)) B (length ms) S suits o paths σ stood tt (x .1 .1) in
+        inl (x .0 ++ [], (t .0, goes-on (t .1 .0) ended)))
+    | inr x ↦
+        (let t = does-too (In-parts q) (λ i. station-rules q (meaning-at ms i)) B (length ms) S suits o paths σ stood refl (x .1) in
+        inr (fraction 1 q, (some, (omega arith, (t .0, goes-on (t .1 .0) ended)))))
+  ]
 
 module _ (ms : Meaning) (sound : Sound ms) (ps : List Path) (o : Order) (q : ℕ) where
   start-timely : Timely (geared ms) q (make ms ps o q 0 .state .stations)

@@ -2,22 +2,22 @@
 use Prim.Native.Nat.{ℕ, zero, suc, _+_, _*_, _<_, _≤_}
 use native.Mathlib.Nat.{mul-div-cancel}
 use native.Mathlib.Omega.{arith}
-use lib.Dec.{leb, ltb, eqb}
-use lib.ListN.{length, set, length-map}
+use lib.Dec.{ltb, eqb}
+use lib.ListN.{length, set}
 use mathlib.Core.Bool.{Bool, true, false, cond, not, _&&_}
 use mathlib.Core.List.{List, [], _∷_, map}
 use mathlib.Core.Logic.{_⊎_, inl, inr}
-use mathlib.Core.Path.{_≡_, refl, sym, _∙_, ap, ap₂, subst, fun-ext}
+use mathlib.Core.Path.{_≡_, refl, sym, _∙_, ap, subst}
 use Rattle.std.specs.declared.option.Option.{Option}
 use Rattle.std.specs.declared.option.Option.the-variants.{Some, None}
 use Rattle.std.specs.declared.result.Result.the-variants.{Ok}
-use Rattle.std.specs.Options.{orOther, mapped}
+use Rattle.std.specs.Options.{orOther}
 use Rattle.std.proofs.shelf.Tests.{eqb-true, eqb-false, ltb-false, le-ltb, le-leb}
 use Rattle.semantics.specs.Times.{fraction, Order}
 use Rattle.semantics.specs.Trees.{Word, Path}
 use Rattle.semantics.specs.Fits.{within-bound}
 use Rattle.semantics.specs.Events.{Event, event, leaves, Internal}
-use Rattle.semantics.specs.Machine.{Stance, Meaning, meaning-at}
+use Rattle.semantics.specs.Machine.{Meaning, meaning-at}
 use Rattle.semantics.specs.declared.state.Move.{Move}
 use Rattle.semantics.specs.declared.state.StationState.{StationState}
 use Rattle.semantics.specs.Net.{Net, NetState, in-stance, state-at, stance-at, busy-at, due-at, past-at, ends-now, runs-out, passed, heard, arrive, and-then, deliver, send, land, act}
@@ -72,9 +72,10 @@ module _ (ms : Meaning) (q : ℕ) where
   deliver-timely [] fine from port v σ long t = t
   deliver-timely (p ∷ ps) fine from port v σ long t =
       elim (leaves p from port) as
-        (λ b. Timely (cond b (and-then (arrive ms q σ (p .hearer) (p .«hearer_port») v) (deliver ms q ps from port v)) (deliver ms q ps from port v σ) .stations))
-      [ true ↦ deliver-timely ps (fine .1) from port v _ (arrive-long ms q σ (p .hearer) (p .«hearer_port») v ∙ long) (arrive-timely σ (p .hearer) (p .«hearer_port») v long (fine .0) t)
-      | false ↦ deliver-timely ps (fine .1) from port v σ long t ]
+      (λ b. Timely (cond b (and-then (arrive ms q σ (p .hearer) (p .«hearer_port») v) (deliver ms q ps from port v)) (deliver ms q ps from port v σ) .stations)) [
+        | true ↦ deliver-timely ps (fine .1) from port v _ (arrive-long ms q σ (p .hearer) (p .«hearer_port») v ∙ long) (arrive-timely σ (p .hearer) (p .«hearer_port») v long (fine .0) t)
+        | false ↦ deliver-timely ps (fine .1) from port v σ long t
+      ]
 
   send-timely : (ps : List Path) → Fine n ps → (i : ℕ) (w : Option Word) (σ : List StationState) → length σ ≡ n → Timely σ → Timely (send ms q ps i w σ .stations)
   send-timely ps fine i None σ long t = t
@@ -176,9 +177,10 @@ module _ (ms : Meaning) (q : ℕ) where
               let both = either-none _ _ e in
               let one : parts-in (fraction 1 q) q ≡ 1 = mul-div-cancel 1 some in
               let quiet : (i : ℕ) → i < n → busy-at ms (s .stations) i ≡ false = λ i l. all-fail (busy-at ms (s .stations)) 0 n (both .0) i (omega arith) (omega arith) in
-              inr
-              ( (λ i. rules i .later (fraction 1 q) (state-at (s .stations) i))
-              , delayed some quiet (λ i l.
-                  subst (λ k. within-bound (stance-at ms (s .stations) i .lifetime) (fraction (state-at (s .stations) i .elapsed + k) q) ≡ true) (sym one)
-                  (one-more (stance-at ms (s .stations) i .lifetime) (state-at (s .stations) i .elapsed) (h .timely i l (quiet i l))
-                  (not-due (busy-at ms (s .stations) i) _ (quiet i l) (all-fail (due-at ms q (s .stations)) 0 n (both .1) i (omega arith) (omega arith))))) )
+              inr (
+                (λ i. rules i .later (fraction 1 q) (state-at (s .stations) i)),
+                delayed some quiet (λ i l.
+                    subst (λ k. within-bound (stance-at ms (s .stations) i .lifetime) (fraction (state-at (s .stations) i .elapsed + k) q) ≡ true) (sym one)
+                    (one-more (stance-at ms (s .stations) i .lifetime) (state-at (s .stations) i .elapsed) (h .timely i l (quiet i l))
+                    (not-due (busy-at ms (s .stations) i) _ (quiet i l) (all-fail (due-at ms q (s .stations)) 0 n (both .1) i (omega arith) (omega arith))))),
+              )
