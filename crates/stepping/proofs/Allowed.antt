@@ -1,5 +1,5 @@
 -- A call that a net obeys, the rules of its stations allow, with the same events and into the same states.
-use Prim.Native.Nat.{ℕ, zero, suc, _+_, _*_, _/_, _<_, _≤_}
+use Prim.Native.Nat.{ℕ, zero, suc, _+_, _*_, _<_, _≤_}
 use native.Mathlib.Nat.{mul-div-cancel}
 use native.Mathlib.Omega.{arith}
 use lib.Dec.{leb, ltb, eqb}
@@ -7,21 +7,21 @@ use lib.ListN.{length, set}
 use mathlib.Core.Bool.{Bool, true, false, cond, not, _&&_}
 use mathlib.Core.List.{List, [], _∷_, _++_}
 use mathlib.Core.Logic.{_⊎_, inl, inr}
-use mathlib.Core.Path.{_≡_, refl, sym, _∙_, ap, ap₂, subst, fun-ext}
+use mathlib.Core.Path.{_≡_, refl, sym, _∙_, ap, subst, fun-ext}
 use Rattle.std.specs.declared.option.Option.{Option}
 use Rattle.std.specs.declared.option.Option.the-variants.{Some, None}
 use Rattle.std.specs.declared.result.Result.the-variants.{Ok, Err}
-use Rattle.std.specs.Options.{orOther, mapped}
+use Rattle.std.specs.Options.{orOther}
 use Rattle.std.proofs.shelf.Tests.{and-parts}
 use Rattle.std.proofs.shelf.Ways.{tells}
 use Rattle.book.specs.declared.refusal.Refusal.{Refusal}
 use Rattle.book.specs.declared.refusal.Fault.{Fault}
-use Rattle.semantics.specs.Times.{Fraction, fraction, Order, StepFirst}
+use Rattle.semantics.specs.Times.{fraction, Order}
 use Rattle.semantics.specs.Trees.{Word, Path}
 use Rattle.semantics.specs.Fits.{within-bound}
 use Rattle.semantics.specs.AutomatonRules.{at-bound}
 use Rattle.semantics.specs.Events.{Event, event, leaves, Internal}
-use Rattle.semantics.specs.Machine.{Stance, Meaning, meaning-at}
+use Rattle.semantics.specs.Machine.{Meaning, meaning-at}
 use Rattle.semantics.specs.declared.state.Move.{Move}
 use Rattle.semantics.specs.declared.state.StationState.{StationState}
 use Rattle.semantics.specs.Net.{Net, NetState, in-stance, state-at, stance-at, busy-at, due-at, past-at, ends-now, runs-out, passed, arrive, and-then, deliver, send, land, act}
@@ -35,7 +35,7 @@ use Rattle.semantics.proofs.Lowest.{all-fail}
 use Rattle.semantics.proofs.Devs.{selects-turn}
 use Rattle.stepping.specs.StationRules.{station-rules, parts-in}
 use Rattle.stepping.specs.Obeys.{act-of}
-use Rattle.stepping.proofs.Whole.{Steady, put-set, Fine, paths-fine, either-way, wait-at, arrive-long, Whole, deliver-whole, send-whole, call-whole}
+use Rattle.stepping.proofs.Whole.{Steady, put-set, Fine, paths-fine, either-way, wait-at, arrive-long, Whole, send-whole}
 
 -- the net's comparisons of parts are those of the fraction parts / q
 ends-at : (l : Option ℕ) (q e : ℕ) → ends-now l q e ≡ at-bound l (fraction e q)

@@ -1,17 +1,15 @@
 -- Nets over any sound machine: reached states are whole, and the net keeps the rules of its stations' meanings.
 use Prim.Native.Nat.{ℕ, _<_, _≤_}
 use lib.ListN.{length}
-use mathlib.Core.Bool.{true}
 use mathlib.Core.List.{List}
 use mathlib.Core.Path.{_≡_, refl, sym, _∙_, ap, subst}
 use Rattle.semantics.specs.Times.{Order}
 use Rattle.semantics.specs.Trees.{Path}
 use Rattle.semantics.specs.Machine.{StationMeaning, Meaning, meaning-at, Sound, geared}
-use Rattle.semantics.specs.declared.state.StationState.{StationState}
-use Rattle.semantics.specs.Net.{Net, NetState, state-at}
-use Rattle.semantics.specs.Calls.{make, Call}
+use Rattle.semantics.specs.Net.{NetState, state-at}
+use Rattle.semantics.specs.Calls.{make}
 use Rattle.stepping.specs.StationRules.{station-rules}
-use Rattle.stepping.specs.AnyMachine.{Reached, at-first, then-called, Reached-over, All-known, Keeps-rules, Reached-are-known, Machine-nets-step}
+use Rattle.stepping.specs.AnyMachine.{at-first, then-called, Reached-over, All-known, Keeps-rules, Reached-are-known, Machine-nets-step}
 use Rattle.stepping.proofs.Simulation.{Follows-suit}
 use Rattle.stepping.proofs.Whole.{Whole, call-whole}
 use Rattle.stepping.proofs.Bridge.{In-parts, obeyed-runs, runs-obeyed}
@@ -19,7 +17,7 @@ use Rattle.stepping.proofs.Geared.{long, gear-at, steady, start-whole}
 use Rattle.stepping.proofs.Declined.{declines-exactly}
 
 -- rules follow themselves
-forth : (q : ℕ) (m : StationMeaning) → Follows-suit (In-parts q) (station-rules q m) (station-rules q m) (λ x y. y ≡ x)
+pub forth : (q : ℕ) (m : StationMeaning) → Follows-suit (In-parts q) (station-rules q m) (station-rules q m) (λ x y. y ≡ x)
 forth q m = record {
   busy = λ x y s. sym (ap (station-rules q m .busy) s);
   due = λ x y s. sym (ap (station-rules q m .due) s);

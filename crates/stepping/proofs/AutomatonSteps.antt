@@ -1,8 +1,8 @@
 -- Automaton nets step by the automaton rules.
-use Prim.Native.Nat.{ℕ, zero, suc, _+_, _*_, _/_, _<_, _≤_}
+use Prim.Native.Nat.{ℕ, suc, _*_, _/_, _<_, _≤_}
 use native.Mathlib.Nat.{one-le-mul}
 use native.Mathlib.Omega.{arith}
-use lib.ListN.{length, getD, length-map}
+use lib.ListN.{length, length-map}
 use mathlib.Core.Bool.{true}
 use mathlib.Core.List.{List, [], _∷_, map}
 use mathlib.Core.Path.{_≡_, refl, sym, _∙_, ap, ap₂, subst, subst₂}
@@ -12,30 +12,35 @@ use Rattle.std.proofs.shelf.Elements.{all-getD}
 use Rattle.std.proofs.shelf.Lists.{getD-map}
 use Rattle.std.proofs.shelf.Lanes.{map-map}
 use Rattle.std.proofs.shelf.Tests.{eq-eqb, eqb-true}
-use Rattle.semantics.specs.Times.{Fraction, fraction}
-use Rattle.semantics.specs.Trees.{Location, Automaton, AutomatonNet, automaton-at, blank-automaton, location-at}
+use Rattle.semantics.specs.Times.{fraction}
+use Rattle.semantics.specs.Trees.{Automaton, AutomatonNet, automaton-at, blank-automaton, location-at}
 use Rattle.semantics.specs.Scales.{lcm-all, automaton-scale}
 use Rattle.semantics.specs.Fits.{within-bound}
-use Rattle.semantics.specs.Machine.{StationMeaning, Meaning, meaning-at, blank-meaning, Sound, net-scale, factor, gear, geared}
+use Rattle.semantics.specs.Machine.{Meaning, meaning-at, blank-meaning, Sound, net-scale, factor, gear, geared}
 use Rattle.semantics.specs.declared.state.StationState.{StationState}
 use Rattle.semantics.specs.Meanings.{automaton-meaning, automata-meaning}
-use Rattle.semantics.specs.Events.{Event, event, Created}
-use Rattle.semantics.specs.Net.{Net, NetState, in-stance, state-at, stance-at}
+use Rattle.semantics.specs.Events.{event, Created}
+use Rattle.semantics.specs.Net.{NetState, in-stance, state-at}
 use Rattle.semantics.specs.Calls.{Call, bad-paths, created, left-by, telling}
 use Rattle.semantics.specs.Runs.{Run}
 use Rattle.semantics.specs.LawfulAutomata.{Lawful-automaton, LawfulAutomata}
-use Rattle.semantics.specs.AutomatonRules.{AutomatonState, rules-of}
+use Rattle.semantics.specs.AutomatonRules.{AutomatonRun, AutomatonState, rules-of}
 use Rattle.semantics.specs.OneTime.{One-time}
-use Rattle.semantics.specs.Faithful.{automata-made, Is-time, Automata-stand, automaton-start}
+use Rattle.semantics.specs.Faithful.{automata-made, Is-time, automaton-start}
 use Rattle.semantics.proofs.OneTime.{one-time}
 use Rattle.semantics.proofs.Sound.{meanings-sound}
 use Rattle.stepping.specs.StationRules.{station-rules}
-use Rattle.stepping.specs.Obeys.{acts-of, Steps-by}
+use Rattle.stepping.specs.Obeys.{acts-of}
 use Rattle.stepping.specs.AutomatonNets.{net-of, left, openings, Automata-at, opening-state, Automaton-steps}
 use Rattle.stepping.proofs.Simulation.{Follows-suit}
 use Rattle.stepping.proofs.Bridge.{In-parts, left-stood, obeyed-runs, runs-obeyed}
-use Rattle.stepping.proofs.Geared.{paths-good, scaled, long, gear-at, some-factor, steady, start-at, start-whole, makes, telling-at}
-use Rattle.stepping.proofs.AutomatonSuits.{zero-within, Sited, automaton-forth, automaton-back}
+use Rattle.stepping.proofs.Geared.{paths-good, long, gear-at, some-factor, steady, start-at, start-whole, makes, telling-at}
+use Rattle.stepping.proofs.Settled.{run-one}
+use Rattle.stepping.specs.Progress.{Goes-on}
+use Rattle.stepping.proofs.Timely.{left-sure}
+use Rattle.stepping.proofs.Progress.{progress as goes-on-by, start-sure}
+use Rattle.stepping.specs.Determined.{One-run}
+use Rattle.stepping.proofs.AutomatonSuits.{In-place, automaton-settled, zero-within, Sited, automaton-forth, automaton-back}
 
 module _ (a : AutomatonNet) (law : LawfulAutomata a) (q : ℕ) (some : 1 ≤ q) where
   abbrev ms : Meaning
@@ -202,3 +207,18 @@ module _ (a : AutomatonNet) (law : LawfulAutomata a) (q : ℕ) (some : 1 ≤ q) 
                   (t .0, to-at (left-by (net-of a q) (a .paths) cs (left a q calls)) τ (t .1));
             };
       }
+
+  pub determined : (calls : List Call) (σ : ℕ → AutomatonState) → Automata-at a q (left a q calls) σ → One-run (AutomatonRun a) σ
+  determined calls σ stood acts es fs τ ρ x y =
+      let r = left-stood (geared ms) q (a .order) (a .paths) some (steady ms sound) (rules-of a) S forth back calls start (opening-state a) (start-whole ms sound (a .paths) (a .order) q) start-stands in
+      let here = of-at (left a q calls) σ (r .1 .0) (r .1 .1) stood in
+      run-one (rules-of a) (length (a .automata)) (λ i. In-place (at i)) (λ i k. automaton-settled L (at i) (law-at i k) (factor-at i k) q some) (a .order) (a .paths) acts
+      (λ i k. let h = here i (in-net i k) in record { here = h .here; proper = h .clock .left; within = h .within }) x y
+
+  pub progress : (calls : List Call) (σ : ℕ → AutomatonState) → Automata-at a q (left a q calls) σ → Goes-on (AutomatonRun a) σ
+  progress calls σ stood =
+      let r = left-stood (geared ms) q (a .order) (a .paths) some (steady ms sound) (rules-of a) S forth back calls start (opening-state a) (start-whole ms sound (a .paths) (a .order) q) start-stands in
+      let here = of-at (left a q calls) σ (r .1 .0) (r .1 .1) stood in
+      subst (λ k. Goes-on (Run (rules-of a) k (a .order) (a .paths)) σ) all
+      (goes-on-by (geared ms) q (a .order) (a .paths) some (steady ms sound) (rules-of a) S forth fine (left a q calls)
+      (left-sure (geared ms) q (steady ms sound) (a .order) (a .paths) calls start (start-sure ms sound (a .paths) (a .order) q)) σ here)

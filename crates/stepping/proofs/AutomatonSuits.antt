@@ -1,5 +1,5 @@
 -- An automaton's meaning, geared, goes as the automaton goes by its rules, and the other way round.
-use Prim.Native.Nat.{ℕ, zero, suc, _+_, _*_, _/_, _<_, _≤_}
+use Prim.Native.Nat.{ℕ, _+_, _*_, _<_, _≤_}
 use native.Mathlib.Nat.{one-le-mul}
 use native.Mathlib.Omega.{arith}
 use lib.Dec.{leb, eqb}
@@ -7,33 +7,34 @@ use lib.ListN.{length, getD}
 use mathlib.Core.Bool.{Bool, true, false, cond, not, _&&_}
 use mathlib.Core.List.{List, [], _∷_, _++_}
 use mathlib.Core.Logic.{_⊎_, inl, inr}
-use mathlib.Core.Path.{_≡_, refl, sym, _∙_, ap, ap₂, subst}
+use mathlib.Core.Path.{_≡_, refl, sym, _∙_, ap, subst}
 use Rattle.std.specs.declared.option.Option.{Option}
 use Rattle.std.specs.declared.option.Option.the-variants.{Some, None}
 use Rattle.std.specs.Options.{mapped}
 use Rattle.std.specs.shelf.Lists.{All}
 use Rattle.std.proofs.shelf.Elements.{all-getD, all-weaker}
 use Rattle.std.proofs.shelf.Tests.{and-parts, le-leb, eqb-true}
-use Rattle.semantics.specs.Times.{Fraction, fraction, same-time, plus, over, whole, zero-time, inside}
-use Rattle.semantics.specs.Trees.{Word, Label, Silent, Hears, Sends, Transition, Location, location-at, blank-location, Automaton}
+use Rattle.semantics.specs.Times.{Fraction, fraction, Proper, same-time, plus, over, whole, zero-time, inside}
+use Rattle.semantics.specs.Trees.{Word, Label, Silent, Hears, Sends, Transition, location-at, blank-location, Automaton}
 use Rattle.semantics.specs.Fits.{label-fits, transition-fits, within-bound, first}
 use Rattle.semantics.specs.Print.{from-on}
-use Rattle.semantics.specs.Machine.{move-to, Stance, StationMeaning, gear, gear-stance, factor}
+use Rattle.semantics.specs.Machine.{move-to, gear, factor}
 use Rattle.semantics.specs.declared.state.Move.{Move}
 use Rattle.semantics.specs.declared.state.StationState.{StationState}
 use Rattle.semantics.specs.Meanings.{label-move, move-among, location-stance, automaton-meaning}
 use Rattle.semantics.specs.Net.{in-stance}
 use Rattle.semantics.specs.Runs.{Rules}
-use Rattle.semantics.specs.LawfulAutomata.{is-move, Hears-only, Printed-move, Lawful-moves, Lawful-transition, Lawful-location, Lawful-automaton}
+use Rattle.semantics.specs.LawfulAutomata.{is-move, Hears-only, Lawful-moves, Lawful-transition, Lawful-location, Lawful-automaton}
 use Rattle.semantics.specs.ModelRules.{Any}
 use Rattle.semantics.specs.AutomatonRules.{AutomatonState, at-bound, Moves-with, through, automaton-rules}
 use Rattle.semantics.specs.OneTime.{One-time}
 use Rattle.semantics.proofs.OneTime.{one-time}
-use Rattle.semantics.proofs.Options.{some-not-none, true-not-false, inner}
+use Rattle.semantics.proofs.Options.{true-not-false, inner}
 use Rattle.stepping.specs.StationRules.{station-rules, parts-in}
 use Rattle.stepping.proofs.Simulation.{Follows-suit}
 use Rattle.stepping.proofs.Bridge.{In-parts}
-use Rattle.stepping.proofs.Firsts.{any-at, first-same, first-found, first-none, none-first, only-first}
+use Rattle.stepping.proofs.Settled.{Settled}
+use Rattle.stepping.proofs.Firsts.{any-at, first-same, first-found, first-none, none-first, none-fits, only-first}
 use Rattle.stepping.proofs.Scaled.{later-one}
 
 gear-bound : (f e q : ℕ) (b : Option ℕ) → at-bound (mapped (λ x. x * f) b) (fraction e q) ≡ at-bound b (fraction e (q * f))
@@ -95,6 +96,12 @@ pub record Sited (f : ℕ) (a : Automaton) (q : ℕ) (x : StationState) (y : Aut
   pub location : y .location ≡ x .stance
   pub here : y .location < length (a .locations)
   pub clock : One-time (y .clock) (fraction (x .elapsed) (q * f))
+  pub within : within-bound (location-at a (y .location) .bound) (y .clock) ≡ true
+
+-- nothing is left to choose in a location that is there, with the clock up to its bound
+pub record In-place (a : Automaton) (y : AutomatonState) : Type 0 where
+  pub here : y .location < length (a .locations)
+  pub proper : Proper (y .clock)
   pub within : within-bound (location-at a (y .location) .bound) (y .clock) ≡ true
 
 module _ (L : ℕ) (a : Automaton) (law : Lawful-automaton a) (geared : 1 ≤ factor L (automaton-meaning a)) (q : ℕ) (few : 1 ≤ q) where
@@ -349,4 +356,63 @@ module _ (L : ℕ) (a : Automaton) (law : Lawful-automaton a) (geared : 1 ≤ fa
     hears = hears-back;
     deaf = deaf-back;
     moves = moves-back;
+  }
+
+  through-reset : (t : Transition) (y : AutomatonState) → t .resets ≡ true → through t y ≡ record { location = t .goal; clock = zero-time }
+  through-reset t y r = ap (λ b. record { location = t .goal; clock = cond b zero-time (y .clock) }) r
+
+  through-in-place : (t : Transition) (y : AutomatonState) → t .goal < length (a .locations) → t .resets ≡ true → In-place a (through t y)
+  through-in-place t y l r =
+      subst (In-place a) (sym (through-reset t y r)) (record { here = l; proper = omega arith; within = zero-within (location-at a (t .goal) .bound) })
+
+  moved-in-place : (t : Transition) (y : AutomatonState) → In-place a y → t .goal < length (a .locations) → t .resets ≡ not (location-at a (t .goal) .committed) → In-place a (through t y)
+  moved-in-place t y g l r = go (location-at a (t .goal) .committed) refl
+    where
+      go : (c : Bool) → location-at a (t .goal) .committed ≡ c → In-place a (through t y)
+      go false k = through-in-place t y l (r ∙ ap not k)
+      go true k =
+          let z : through t y ≡ record { location = t .goal; clock = y .clock } = ap (λ b. record { location = t .goal; clock = cond b zero-time (y .clock) }) (r ∙ ap not k) in
+          subst (In-place a) (sym z) (record { here = l; proper = g .proper; within = ap (λ b. within-bound b (y .clock)) (location-law (t .goal) l .not-both k) })
+
+  record Heard (x y : AutomatonState) (p v : ℕ) : Type 0 where
+    to : Transition
+    is-first : first (transition-fits p v (x .clock)) (λ t. t .goal) (ts-at x) ≡ Some (to .goal)
+    holds : y ≡ through to x
+    fits : Fitting to
+
+  heard : (x y : AutomatonState) (p v : ℕ) → In-place a x → P .Hears x p v y → Heard x y p v
+  heard x y p v g h =
+      let apart = location-law (x .location) (g .here) .guards-apart p v (x .clock) (g .proper) (g .within) in
+      let r = only-first (transition-fits p v (x .clock)) (λ t. t .goal) blank-transition (λ t. y ≡ through t x) (ts-at x) apart h in
+      record {
+        to = getD (ts-at x) (r .place) blank-transition;
+        is-first = r .is-first;
+        holds = r .holds;
+        fits = fitting x (g .here) p v (r .place) (r .within) (r .fit);
+      }
+
+  moved : (x y : AutomatonState) (w : Option Word) (r : Ready x) → P .Moves x w y → Takes x y w (r .move)
+  moved x y w r h = last-any (Takes x y w) (λ t e b. hearing-sends (t .label) w e (b .0)) (r .before) (r .move) (r .hears) (subst (Any (Takes x y w)) (r .is) h)
+
+  pub automaton-settled : Settled P (In-place a)
+  automaton-settled = record {
+    later = λ d x p may g. record { here = g .here; proper = one-le-mul (g .proper) (one-le-mul p geared); within = may };
+    hears-good = λ x y p v g h.
+        let r = heard x y p v g h in
+        subst (In-place a) (sym (r .holds)) (through-in-place (r .to) x (r .fits .goal-here) (r .fits .restarts));
+    hears-one = λ x y z p v g h k.
+        let r = heard x y p v g h in
+        let t = heard x z p v g k in
+        r .holds ∙ (through-reset (r .to) x (r .fits .restarts)
+        ∙ (ap (λ l. record { location = l; clock = zero-time }) (inner (sym (r .is-first) ∙ t .is-first))
+        ∙ (sym (through-reset (t .to) x (t .fits .restarts)) ∙ sym (t .holds))));
+    not-both = λ x y p v g h k. none-fits (transition-fits p v (x .clock)) (λ t. y ≡ through t x) (ts-at x) k h;
+    moves-good = λ x y w rd g h.
+        let r = ready x (g .here) rd in
+        subst (In-place a) (sym (moved x y w r h .2)) (moved-in-place (r .move) x g (ready-goal x (g .here) r) (r .resets));
+    moves-one = λ x y z w u rd g h k.
+        let r = ready x (g .here) rd in
+        let m = moved x y w r h in
+        let l = moved x z u r k in
+        (with-only (r .move .label) w u (m .0) (l .0), m .2 ∙ sym (l .2));
   }

@@ -1,10 +1,9 @@
 -- A call is declined exactly where a refusal's condition is the first of its call that holds.
-use Prim.Native.Nat.{ℕ, zero, suc, _+_, _*_, _^_, _<_, _≤_}
-use native.Mathlib.Nat.{suc-inj}
+use Prim.Native.Nat.{ℕ, zero, suc, _+_, _*_, _<_, _≤_}
 use native.Mathlib.Omega.{arith}
 use lib.Dec.{ltb, eqb}
 use lib.ListN.{length, getD}
-use mathlib.Core.Bool.{Bool, true, false, cond, not, _&&_, _||_}
+use mathlib.Core.Bool.{Bool, true, false, cond, not, _||_}
 use mathlib.Core.List.{List, [], _∷_}
 use mathlib.Core.Logic.{_⊎_, inl, inr, _↔_}
 use mathlib.Core.Path.{_≡_, refl, sym, _∙_, ap, ap₂, subst, subst₂}
@@ -13,15 +12,14 @@ use Rattle.std.specs.declared.option.Option.the-variants.{Some, None}
 use Rattle.std.specs.declared.result.Result.the-variants.{Ok, Err}
 use Rattle.std.specs.Options.{orOther, mapped}
 use Rattle.std.specs.Orderings.{Decides}
-use Rattle.std.proofs.shelf.Tests.{ltb-true, lt-ltb, ltb-false, le-ltb, eqb-true, eq-eqb, and-parts, and-from, or-cases, or-left, or-right, not-from-false, not-true, cases-bool}
+use Rattle.std.proofs.shelf.Tests.{ltb-true, lt-ltb, ltb-false, le-ltb, eqb-true, eq-eqb, and-parts, and-from, or-cases, or-left, or-right, not-from-false}
 use Rattle.book.specs.Refusals.{refused}
 use Rattle.book.specs.declared.refusal.Fault.{Fault}
 use Rattle.book.specs.declared.refusal.Fault.the-variants.{Paths, Room, Busy, Due, Lifetime, Total, Idle}
 use Rattle.semantics.specs.Times.{Order, StepFirst, WordFirst}
 use Rattle.semantics.specs.Trees.{Path}
-use Rattle.semantics.specs.Machine.{Meaning, meaning-at}
 use Rattle.semantics.specs.Events.{Event}
-use Rattle.semantics.specs.Net.{Net, NetState, state-at, stance-at, busy-at, due-at, past-at, ends-now, runs-out}
+use Rattle.semantics.specs.Net.{Net, NetState, busy-at, due-at, past-at, ends-now, runs-out}
 use Rattle.semantics.specs.Calls.{Answer, Outcome, Call, wait, word, step, unless, at-zero, number, lowest, first-bad, bad-path, bad-paths, room, declined, step-of, due-before-words, answer-call}
 use Rattle.semantics.specs.Calls as calls
 use Rattle.semantics.proofs.Options.{some-not-none, true-not-false, inner}

@@ -4,14 +4,14 @@ use native.Mathlib.Omega.{arith}
 use lib.ListN.{length, getD}
 use mathlib.Core.Bool.{Bool, true, false, cond}
 use mathlib.Core.List.{List, [], _∷_}
-use mathlib.Core.Logic.{_⊎_, inl, inr}
+use mathlib.Core.Logic.{inl, inr}
 use mathlib.Core.Path.{_≡_, refl, sym, _∙_, ap, ap₂}
 use Rattle.std.specs.declared.option.Option.the-variants.{Some, None}
 use Rattle.std.specs.shelf.Lists.{All}
 use Rattle.semantics.specs.Fits.{first}
 use Rattle.semantics.specs.Limits.{At-most-one}
 use Rattle.semantics.specs.ModelRules.{Any}
-use Rattle.semantics.proofs.Options.{some-not-none, true-not-false, inner}
+use Rattle.semantics.proofs.Options.{some-not-none, true-not-false}
 
 pub any-at : {A : Type 0} (P : A → Type 0) (d : A) (xs : List A) (k : ℕ) → k < length xs → P (getD xs k d) → Any P xs
 any-at P d [] k l h = absurd (omega arith)
@@ -27,7 +27,7 @@ pub first-same : {A : Type 0} (f g : A → Bool) (goal : A → ℕ) (xs : List A
 first-same f g goal [] h = refl
 first-same f g goal (x ∷ xs) h = ap₂ (λ b r. cond b (Some (goal x)) r) (h .0) (first-same f g goal xs (h .1))
 
-none-fits : {A : Type 0} (fits : A → Bool) (Q : A → Type 0) (xs : List A) → All (λ x. fits x ≡ false) xs → Any (λ x. (fits x ≡ true) × Q x) xs → ⊥
+pub none-fits : {A : Type 0} (fits : A → Bool) (Q : A → Type 0) (xs : List A) → All (λ x. fits x ≡ false) xs → Any (λ x. (fits x ≡ true) × Q x) xs → ⊥
 none-fits fits Q [] e h = h
 none-fits fits Q (x ∷ xs) e (inl h) = true-not-false (sym (h .0) ∙ e .0)
 none-fits fits Q (x ∷ xs) e (inr h) = none-fits fits Q xs (e .1) h

@@ -1,17 +1,17 @@
 -- A net over a sound machine: its stations, geared, its making, and its first state.
-use Prim.Native.Nat.{ℕ, zero, suc, _+_, _*_, _/_, _<_, _≤_, _∣_}
+use Prim.Native.Nat.{ℕ, zero, suc, _*_, _<_, _≤_, _∣_}
 use native.Mathlib.Nat.{div-mul-cancel}
 use native.Mathlib.Omega.{arith}
 use lib.Dec.{ltb, eqb}
-use lib.ListN.{length, getD, length-map}
-use mathlib.Core.Bool.{Bool, true, false, cond, _||_}
+use lib.ListN.{length, length-map}
+use mathlib.Core.Bool.{Bool, false, cond, _||_}
 use mathlib.Core.List.{List, [], _∷_, map}
 use mathlib.Core.Path.{_≡_, refl, sym, _∙_, ap, ap₂, subst}
 use Rattle.std.specs.Options.{mapped}
 use Rattle.std.specs.shelf.Lists.{All}
 use Rattle.std.specs.declared.option.Option.{Option}
 use Rattle.std.specs.declared.option.Option.the-variants.{Some, None}
-use Rattle.std.specs.declared.result.Result.the-variants.{Ok, Err}
+use Rattle.std.specs.declared.result.Result.the-variants.{Ok}
 use Rattle.std.proofs.shelf.Elements.{all-getD, all-from-getD, all-weaker}
 use Rattle.std.proofs.shelf.Lists.{getD-map}
 use Rattle.std.proofs.shelf.Tests.{le-ltb, lt-ltb, ne-eqb, or-from}
@@ -21,7 +21,7 @@ use Rattle.semantics.specs.Limits.{Lawful-path}
 use Rattle.semantics.specs.Machine.{Stance, StationMeaning, Meaning, meaning-at, blank-meaning, SoundStance, SoundStation, Sound, gear, gear-stance, net-scale, factor, geared}
 use Rattle.semantics.specs.declared.state.StationState.{StationState}
 use Rattle.semantics.specs.Net.{Net, NetState, in-stance, state-at, stance-at}
-use Rattle.semantics.specs.Calls.{Made, make, unless, at-zero, first-bad, bad-path, bad-paths, misfit, created, telling}
+use Rattle.semantics.specs.Calls.{make, at-zero, first-bad, bad-path, bad-paths, misfit, created, telling}
 use Rattle.semantics.proofs.Lcm.{least-common}
 use Rattle.stepping.proofs.Whole.{Steady-stance, Steady, Whole}
 

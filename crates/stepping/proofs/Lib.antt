@@ -12,3 +12,6 @@ pub mod AutomatonSuits
 pub mod AutomatonSteps
 pub mod Declined
 pub mod AnyMachine
+pub mod Settled
+pub mod Timely
+pub mod Progress

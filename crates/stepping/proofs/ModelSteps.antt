@@ -1,39 +1,43 @@
 -- Model nets step by the model's rules.
-use Prim.Native.Nat.{ℕ, zero, suc, pred, _+_, _*_, _/_, _<_, _≤_}
+use Prim.Native.Nat.{ℕ, suc, pred, _*_, _<_, _≤_}
 use native.Mathlib.Nat.{one-le-mul, suc-inj}
 use native.Mathlib.Omega.{arith}
-use lib.ListN.{length, getD, length-map}
+use lib.ListN.{length, length-map}
 use mathlib.Core.List.{List, [], _∷_, map}
 use mathlib.Core.Path.{_≡_, refl, sym, _∙_, ap, ap₂, subst, subst₂}
 use Rattle.std.specs.declared.option.Option.the-variants.{None}
 use Rattle.std.specs.declared.result.Result.the-variants.{Ok}
-use Rattle.std.specs.shelf.Lists.{All}
 use Rattle.std.proofs.shelf.Elements.{all-getD}
 use Rattle.std.proofs.shelf.Lists.{getD-map}
 use Rattle.std.proofs.shelf.Lanes.{map-map}
 use Rattle.std.proofs.shelf.Tests.{eq-eqb, eqb-true}
-use Rattle.semantics.specs.Times.{Fraction, fraction, Proper, Order}
+use Rattle.semantics.specs.Times.{Fraction, fraction}
 use Rattle.semantics.specs.Trees.{Station, ModelNet, station-at, blank-station, words-of, phase-at}
 use Rattle.semantics.specs.Scales.{lcm-all, station-scale, model-scale}
 use Rattle.semantics.specs.Machine.{StationMeaning, Meaning, meaning-at, blank-meaning, Sound, net-scale, factor, gear, gear-stance, geared}
 use Rattle.semantics.specs.declared.state.StationState.{StationState}
-use Rattle.semantics.specs.Meanings.{stance-number, phase-of, sent-of, model-stance, station-meaning, model-meaning}
-use Rattle.semantics.specs.Events.{Event, event, Created}
-use Rattle.semantics.specs.Net.{Net, NetState, in-stance, state-at, stance-at}
+use Rattle.semantics.specs.Meanings.{stance-number, model-stance, station-meaning, model-meaning}
+use Rattle.semantics.specs.Events.{event, Created}
+use Rattle.semantics.specs.Net.{NetState, in-stance, state-at, stance-at}
 use Rattle.semantics.specs.Calls.{Call, bad-paths, created, left-by, telling}
 use Rattle.semantics.specs.Runs.{Run}
 use Rattle.semantics.specs.LawfulModels.{Lawful-station, LawfulModel}
-use Rattle.semantics.specs.ModelRules.{ModelState, fresh, rules-of}
+use Rattle.semantics.specs.ModelRules.{ModelRun, ModelState, fresh, rules-of}
 use Rattle.semantics.specs.OneTime.{One-time}
 use Rattle.semantics.specs.Faithful.{model-made, Is-time, Model-stands, model-start}
 use Rattle.semantics.proofs.Sound.{stance-numbers, meanings-sound}
 use Rattle.stepping.specs.StationRules.{station-rules}
-use Rattle.stepping.specs.Obeys.{acts-of, Steps-by}
+use Rattle.stepping.specs.Obeys.{acts-of}
 use Rattle.stepping.specs.ModelNets.{net-of, left, openings, Model-steps}
 use Rattle.stepping.proofs.Simulation.{Follows-suit}
 use Rattle.stepping.proofs.Bridge.{In-parts, left-stood, obeyed-runs, runs-obeyed}
 use Rattle.stepping.proofs.Geared.{paths-good, scaled, long, gear-at, exact, some-factor, steady, start-at, start-whole, makes, telling-at}
-use Rattle.stepping.proofs.ModelSuits.{stance-phase, stance-sent, Sits-at, fresh-sits, at-stance, model-forth, model-back}
+use Rattle.stepping.proofs.Settled.{run-one}
+use Rattle.stepping.specs.Progress.{Goes-on}
+use Rattle.stepping.proofs.Timely.{left-sure}
+use Rattle.stepping.proofs.Progress.{progress as goes-on-by, start-sure}
+use Rattle.stepping.specs.Determined.{One-run}
+use Rattle.stepping.proofs.ModelSuits.{In-place, model-settled, stance-phase, stance-sent, Sits-at, fresh-sits, at-stance, model-forth, model-back}
 
 module _ (m : ModelNet) (law : LawfulModel m) (q : ℕ) (some : 1 ≤ q) where
   abbrev ms : Meaning
@@ -196,3 +200,18 @@ module _ (m : ModelNet) (law : LawfulModel m) (q : ℕ) (some : 1 ≤ q) where
                   (t .0, to-stands (left-by (net-of m q) (m .paths) cs (left m q calls)) τ (t .1));
             };
       }
+
+  pub determined : (calls : List Call) (σ : ℕ → ModelState) → Model-stands m q (left m q calls) σ → One-run (ModelRun m) σ
+  determined calls σ stood acts es fs τ ρ x y =
+      let r = left-stood (geared ms) q (m .order) (m .paths) some (steady ms sound) (rules-of m) S forth back calls start (λ i. fresh (st i .opening)) (start-whole ms sound (m .paths) (m .order) q) start-stands in
+      let here = of-stands (left m q calls) σ (r .1 .0) (r .1 .1) stood in
+      run-one (rules-of m) (length (m .stations)) (λ i. In-place (st i)) (λ i k. model-settled (m .order) L (st i) (law-at i k) L-some (exact-at i k) (factor-at i k) q some) (m .order) (m .paths) acts
+      (λ i k. let h = here i (in-net i k) in record { here = h .here; proper = h .age .left }) x y
+
+  pub progress : (calls : List Call) (σ : ℕ → ModelState) → Model-stands m q (left m q calls) σ → Goes-on (ModelRun m) σ
+  progress calls σ stood =
+      let r = left-stood (geared ms) q (m .order) (m .paths) some (steady ms sound) (rules-of m) S forth back calls start (λ i. fresh (st i .opening)) (start-whole ms sound (m .paths) (m .order) q) start-stands in
+      let here = of-stands (left m q calls) σ (r .1 .0) (r .1 .1) stood in
+      subst (λ k. Goes-on (Run (rules-of m) k (m .order) (m .paths)) σ) all
+      (goes-on-by (geared ms) q (m .order) (m .paths) some (steady ms sound) (rules-of m) S forth fine (left m q calls)
+      (left-sure (geared ms) q (steady ms sound) (m .order) (m .paths) calls start (start-sure ms sound (m .paths) (m .order) q)) σ here)

@@ -1,34 +1,33 @@
 -- A model station's meaning, geared, goes as the station goes by the model's rules, and the other way round.
-use Prim.Native.Nat.{ℕ, zero, suc, _+_, _*_, _-_, _/_, _%_, _<_, _≤_, _∣_}
+use Prim.Native.Nat.{ℕ, zero, suc, _+_, _*_, _<_, _≤_, _∣_}
 use native.Mathlib.Nat.{one-le-mul}
 use native.Mathlib.Omega.{arith}
-use lib.Dec.{leb, ltb, eqb}
+use lib.Dec.{ltb, eqb}
 use lib.ListN.{length, getD, drop, length-drop}
 use mathlib.Core.Bool.{Bool, true, false, cond, not, _&&_}
 use mathlib.Core.List.{List, [], _∷_}
 use mathlib.Core.Logic.{_⊎_, inl, inr}
-use mathlib.Core.Path.{_≡_, refl, sym, _∙_, ap, ap₂, subst, subst₂}
+use mathlib.Core.Path.{_≡_, refl, sym, _∙_, ap, ap₂, subst}
 use Rattle.std.specs.declared.option.Option.{Option}
 use Rattle.std.specs.declared.option.Option.the-variants.{Some, None}
-use Rattle.std.specs.Options.{mapped}
 use Rattle.std.specs.shelf.Lists.{All}
 use Rattle.std.proofs.shelf.Elements.{all-getD, all-weaker}
-use Rattle.std.proofs.shelf.Tests.{and-parts, lt-ltb, ne-eqb}
+use Rattle.std.proofs.shelf.Tests.{lt-ltb, ne-eqb}
 use Rattle.records.specs.Fits.{High-fits}
 use Rattle.semantics.specs.Times.{Fraction, fraction, Proper, Order, HighEnd, Closed, Open, Absent, plus, over, zero-time}
 use Rattle.semantics.specs.Trees.{Word, Edge, Phase, endless, lasting, lifetime-of, words-of, edges-of, next-of, phase-at, blank-phase, Station}
-use Rattle.semantics.specs.Scales.{station-scale, phase-denominators, life-denominators, edge-denominators}
+use Rattle.semantics.specs.Scales.{station-scale, phase-denominators, life-denominators}
 use Rattle.semantics.specs.Fits.{edge-fits, first, within-bound}
-use Rattle.semantics.specs.Machine.{move-to, Stance, StationMeaning, gear, gear-stance, factor}
+use Rattle.semantics.specs.Machine.{move-to, Stance, gear, gear-stance, factor}
 use Rattle.semantics.specs.declared.state.Move.{Move}
 use Rattle.semantics.specs.declared.state.StationState.{StationState}
-use Rattle.semantics.specs.Meanings.{stance-number, phase-of, sent-of, move-with, first-move, quiet-stance, busy-stance, model-stance, station-meaning}
+use Rattle.semantics.specs.Meanings.{stance-number, phase-of, sent-of, move-with, first-move, model-stance, station-meaning}
 use Rattle.semantics.specs.Net.{in-stance}
 use Rattle.semantics.specs.Runs.{Rules}
 use Rattle.semantics.specs.Limits.{At-most-one}
 use Rattle.semantics.specs.LawfulModels.{Small-time, Small-life, Lawful-edge, Next-here, Lawful-phase, Lawful-station}
 use Rattle.semantics.specs.AutomatonRules.{at-bound}
-use Rattle.semantics.specs.ModelRules.{Any, ModelState, fresh, lasts, is-over, Sends-next, Leaves, model-rules}
+use Rattle.semantics.specs.ModelRules.{ModelState, fresh, lasts, is-over, Sends-next, Leaves, model-rules}
 use Rattle.semantics.specs.OneTime.{One-time, One-life, One-end, One-edge}
 use Rattle.semantics.proofs.OneTime.{one-time}
 use Rattle.semantics.proofs.Options.{some-not-none, true-not-false, inner}
@@ -37,8 +36,9 @@ use Rattle.semantics.proofs.Sound.{stance-numbers}
 use Rattle.stepping.specs.StationRules.{station-rules, parts-in}
 use Rattle.stepping.proofs.Simulation.{Follows-suit}
 use Rattle.stepping.proofs.Bridge.{In-parts}
-use Rattle.stepping.proofs.Firsts.{any-at, first-same, first-found, first-none, none-first, only-first}
-use Rattle.stepping.proofs.Scaled.{all-left, all-joined, In-ticks, ends-alike, lasts-alike, whole-parts, later-one}
+use Rattle.stepping.proofs.Settled.{Settled}
+use Rattle.stepping.proofs.Firsts.{any-at, first-same, first-found, first-none, none-first, none-fits, only-first}
+use Rattle.stepping.proofs.Scaled.{all-left, all-joined, In-ticks, ends-alike, lasts-alike, later-one}
 
 -- written times are one with themselves
 itself-one : (t : Fraction) → Small-time t → One-time t t
@@ -110,6 +110,11 @@ pub record Sits-at (L : ℕ) (st : Station) (q : ℕ) (x : StationState) (y : Mo
   pub fewer : 0 < y .sent → y .sent < length (words-of (phase-at (st .phases) (y .phase)))
   pub stance : x .stance ≡ stance-number (y .phase) (y .sent)
   pub age : One-time (y .age) (fraction (x .elapsed) (q * L))
+
+-- nothing is left to choose in a phase that is there
+pub record In-place (st : Station) (y : ModelState) : Type 0 where
+  pub here : y .phase < length (st .phases)
+  pub proper : Proper (y .age)
 
 module _ (o : Order) (L : ℕ) (st : Station) (law : Lawful-station o st) (scaled : 1 ≤ L)
     (exact : factor L (station-meaning o st) * station-scale st ≡ L) (geared : 1 ≤ factor L (station-meaning o st)) (q : ℕ) (few : 1 ≤ q) where
@@ -386,4 +391,44 @@ module _ (o : Order) (L : ℕ) (st : Station) (law : Lawful-station o st) (scale
     hears = hears-back;
     deaf = deaf-back;
     moves = moves-back;
+  }
+
+  fresh-in-place : (i : ℕ) → i < length (st .phases) → In-place st (fresh i)
+  fresh-in-place i l = record { here = l; proper = omega arith }
+
+  sends-in-place : (x : ModelState) (next : ℕ) (ws : List Word) (w : Option Word) (y : ModelState) → next < length (st .phases) → In-place st x → Sends-next x next ws w y → In-place st y
+  sends-in-place x next [] w y l g h = subst (In-place st) (sym (h .1)) (fresh-in-place next l)
+  sends-in-place x next (a ∷ []) w y l g h = subst (In-place st) (sym (h .1)) (fresh-in-place next l)
+  sends-in-place x next (a ∷ b ∷ ws) w y l g h = subst (In-place st) (sym (h .1)) (record { here = g .here; proper = g .proper })
+
+  leaves-in-place : (k : Phase) (x : ModelState) (w : Option Word) (y : ModelState) → Next-here (length (st .phases)) k → In-place st x → Leaves k x w y → In-place st y
+  leaves-in-place (endless edges) x w y l g h = absurd h
+  leaves-in-place (lasting life words next edges) x w y l g h = sends-in-place x next (drop (x .sent) words) w y l g h
+
+  abbrev fits : ModelState → ℕ → ℕ → Edge → Bool
+  fits x p v = edge-fits o (lifetime-of (at (x .phase))) p v (x .age)
+
+  abbrev Goes : ModelState → Edge → Type 0
+  Goes y k = y ≡ fresh (k .goal)
+
+  apart-at : (x : ModelState) (p v : ℕ) → In-place st x → At-most-one (fits x p v) (edges-of (at (x .phase)))
+  apart-at x p v g = phase-law (x .phase) (g .here) .edges-apart p v (x .age) (g .proper)
+
+  deaf-never : (x y : ModelState) (p v : ℕ) → M .Hears x p v y → M .Deaf x p v → ⊥
+  deaf-never x y p v h (inl z) = let e = h .0 in omega arith
+  deaf-never x y p v h (inr z) = none-fits (fits x p v) (Goes y) (edges-of (at (x .phase))) z (h .1)
+
+  pub model-settled : Settled M (In-place st)
+  model-settled = record {
+    later = λ d x p may g. record { here = g .here; proper = one-le-mul (g .proper) (one-le-mul p scaled) };
+    hears-good = λ x y p v g h.
+        let r = only-first (fits x p v) (λ k. k .goal) blank-edge (Goes y) (edges-of (at (x .phase))) (apart-at x p v g) (h .1) in
+        subst (In-place st) (sym (r .holds)) (fresh-in-place _ (goal-here x (r .place) (g .here) (r .within)));
+    hears-one = λ x y z p v g h k.
+        let r = only-first (fits x p v) (λ k. k .goal) blank-edge (Goes y) (edges-of (at (x .phase))) (apart-at x p v g) (h .1) in
+        let t = only-first (fits x p v) (λ k. k .goal) blank-edge (Goes z) (edges-of (at (x .phase))) (apart-at x p v g) (k .1) in
+        r .holds ∙ (ap fresh (inner (sym (r .is-first) ∙ t .is-first)) ∙ sym (t .holds));
+    not-both = λ x y p v g h k. deaf-never x y p v h k;
+    moves-good = λ x y w r g h. leaves-in-place (at (x .phase)) x w y (phase-law (x .phase) (g .here) .next-here) g h;
+    moves-one = λ x y z w u r g h k. sends-only x (next-of (at (x .phase))) (drop (x .sent) (words-of (at (x .phase)))) w u y z (leaves-so (at (x .phase)) x w y h) (leaves-so (at (x .phase)) x u z k);
   }

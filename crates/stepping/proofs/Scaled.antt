@@ -1,16 +1,14 @@
 -- Elapsed parts against lifetimes: a station's lifetime in ticks, geared, is compared as its time in seconds is.
-use Prim.Native.Nat.{ℕ, zero, suc, _+_, _*_, _/_, _<_, _≤_, _∣_}
+use Prim.Native.Nat.{ℕ, _+_, _*_, _/_, _≤_, _∣_}
 use native.Mathlib.Nat.{one-le-mul, div-mul-cancel, dvd-mul-left-of-dvd, mul-div-cancel}
 use native.Mathlib.Omega.{arith}
-use lib.Dec.{leb, eqb}
-use mathlib.Core.Bool.{Bool, true, false}
 use mathlib.Core.List.{List, [], _∷_, _++_}
 use mathlib.Core.Path.{_≡_, refl, sym, _∙_, ap, subst}
 use Rattle.std.specs.Options.{mapped}
 use Rattle.std.specs.shelf.Lists.{All, joined}
 use Rattle.std.specs.declared.option.Option.{Option}
 use Rattle.std.specs.declared.option.Option.the-variants.{Some, None}
-use Rattle.semantics.specs.Times.{Fraction, fraction, Proper, at-most, same-time, plus, over, whole}
+use Rattle.semantics.specs.Times.{Fraction, fraction, Proper, plus, over}
 use Rattle.semantics.specs.Scales.{ticks, life-ticks}
 use Rattle.semantics.specs.Fits.{within-bound}
 use Rattle.semantics.specs.AutomatonRules.{at-bound}

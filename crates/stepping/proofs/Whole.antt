@@ -1,26 +1,25 @@
 -- Every state that a net comes to is whole: it has a state for each station, in a stance that is known.
-use Prim.Native.Nat.{ℕ, zero, suc, _+_, _*_, _<_, _≤_}
+use Prim.Native.Nat.{ℕ, zero, suc, _+_, _<_, _≤_}
 use native.Mathlib.Omega.{arith}
 use lib.Dec.{ltb, eqb}
-use lib.ListN.{length, getD, set, length-set, length-map}
+use lib.ListN.{length, set, length-set, length-map}
 use lib.Seq.{getD-set-same, getD-set-other}
-use mathlib.Core.Bool.{Bool, true, false, cond, not, _&&_, _||_}
-use mathlib.Core.List.{List, [], _∷_, _++_, map}
-use mathlib.Core.Logic.{_⊎_, inl, inr, _≢_}
-use mathlib.Core.Path.{_≡_, refl, sym, _∙_, ap, ap₂, subst, fun-ext}
+use mathlib.Core.Bool.{Bool, true, false, cond, _||_}
+use mathlib.Core.List.{List, [], _∷_, map}
+use mathlib.Core.Logic.{_≢_}
+use mathlib.Core.Path.{_≡_, refl, sym, _∙_, ap, subst, fun-ext}
 use Rattle.std.specs.declared.option.Option.{Option}
 use Rattle.std.specs.declared.option.Option.the-variants.{Some, None}
-use Rattle.std.specs.declared.result.Result.the-variants.{Ok, Err}
 use Rattle.std.specs.Options.{orOther}
 use Rattle.std.proofs.shelf.Tests.{eqb-true, eqb-false, or-parts, ltb-false}
 use Rattle.semantics.specs.Times.{Order}
 use Rattle.semantics.specs.Trees.{Word, Path}
-use Rattle.semantics.specs.Events.{Event, event, leaves, Internal}
+use Rattle.semantics.specs.Events.{event, leaves, Internal}
 use Rattle.semantics.specs.Machine.{Stance, StationMeaning, Meaning, meaning-at}
 use Rattle.semantics.specs.declared.state.Move.{Move}
-use Rattle.semantics.specs.Net.{Net, NetState, in-stance, state-at, stance-at, Passed, passed, heard, arrive, and-then, deliver, send, land, act}
+use Rattle.semantics.specs.Net.{Net, NetState, in-stance, state-at, stance-at, passed, heard, arrive, and-then, deliver, send, land, act}
 use Rattle.semantics.specs.declared.state.StationState.{StationState}
-use Rattle.semantics.specs.Calls.{Outcome, Call, wait, word, step, unless, at-zero, number, first-bad, bad-path, bad-paths, room, answered, waited, step-of, lowest, due-before-words, answer-call}
+use Rattle.semantics.specs.Calls.{Outcome, Call, wait, word, step, unless, at-zero, number, first-bad, bad-path, bad-paths, room, step-of, due-before-words, answer-call}
 use Rattle.semantics.specs.Calls as calls
 use Rattle.semantics.specs.Runs.{put}
 use Rattle.semantics.proofs.Options.{some-not-none}

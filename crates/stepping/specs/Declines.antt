@@ -1,5 +1,5 @@
 -- When a net declines a call: for each refusal, in the order of its call, the condition in plain terms, and the place.
-use Prim.Native.Nat.{ℕ, zero, suc, _+_, _*_, _^_, _<_, _≤_}
+use Prim.Native.Nat.{ℕ, suc, _+_, _*_, _^_, _<_, _≤_}
 use lib.ListN.{length, getD}
 use mathlib.Core.Bool.{true, false}
 use mathlib.Core.List.{List}

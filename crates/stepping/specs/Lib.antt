@@ -4,3 +4,5 @@ pub mod ModelNets
 pub mod AutomatonNets
 pub mod Declines
 pub mod AnyMachine
+pub mod Determined
+pub mod Progress

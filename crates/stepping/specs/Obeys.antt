@@ -1,6 +1,6 @@
 -- A list of calls that is obeyed, as a list of acts that rules allow.
 use Prim.Native.Nat.{ℕ, _+_, _≤_, _^_}
-use mathlib.Core.List.{List, [], _∷_, _++_, map}
+use mathlib.Core.List.{List, [], _∷_, _++_}
 use mathlib.Core.Path.{_≡_}
 use Rattle.std.specs.declared.result.Result.the-variants.{Ok}
 use Rattle.semantics.specs.Times.{fraction}

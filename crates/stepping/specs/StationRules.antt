@@ -2,7 +2,7 @@
 -- compared with the fraction elapsed / q of a tick; nothing here is a comparison of the net's calls.
 use Prim.Native.Nat.{ℕ, _+_, _*_, _/_, _<_}
 use lib.ListN.{length}
-use mathlib.Core.Bool.{Bool, cond, not, _&&_}
+use mathlib.Core.Bool.{cond, not, _&&_}
 use mathlib.Core.List.{List}
 use mathlib.Core.Path.{_≡_}
 use Rattle.std.specs.declared.option.Option.the-variants.{Some, None}
@@ -10,7 +10,7 @@ use Rattle.semantics.specs.Times.{Fraction, fraction}
 use Rattle.semantics.specs.Trees.{Path}
 use Rattle.semantics.specs.Fits.{within-bound}
 use Rattle.semantics.specs.AutomatonRules.{at-bound}
-use Rattle.semantics.specs.Machine.{move-to, Stance, StationMeaning, meaning-at}
+use Rattle.semantics.specs.Machine.{move-to, StationMeaning, meaning-at}
 use Rattle.semantics.specs.Events.{Event}
 use Rattle.semantics.specs.Net.{Net, in-stance, state-at}
 use Rattle.semantics.specs.declared.state.StationState.{StationState}

@@ -1,5 +1,7 @@
 // Nets keep the rules: theorems about the definitions of nets and of runs. Each function carries one on its contract.
 ghost use Rattle.stepping.specs.AnyMachine.{Reached-are-known, Machine-nets-step};
+ghost use Rattle.stepping.specs.Determined.{Runs-are-determined};
+ghost use Rattle.stepping.specs.Progress.{Nets-progress};
 ghost use Rattle.stepping.specs.ModelNets.{Model-nets-step};
 ghost use Rattle.stepping.specs.AutomatonNets.{Automaton-nets-step};
 
@@ -29,6 +31,20 @@ pub fn reached_are_known() -> u8
 // where a refusal's condition is the first of that call to hold.
 pub fn machine_nets_step() -> u8
     ensures { λ _. ⌜ Machine-nets-step ⌝ }
+{
+    0
+}
+
+// By the model's rules, and by the automaton rules, one list of acts has at most one list of events and one end.
+pub fn runs_are_determined() -> u8
+    ensures { λ _. ⌜ Runs-are-determined ⌝ }
+{
+    0
+}
+
+// From every reached state a step is allowed, or a delay that is not 0.
+pub fn nets_progress() -> u8
+    ensures { λ _. ⌜ Nets-progress ⌝ }
 {
     0
 }
