@@ -23,7 +23,7 @@ use Rattle.semantics.specs.Print.{place-of, print, print-station}
 use Rattle.semantics.specs.LawfulModels.{LawfulModel}
 use Rattle.semantics.specs.Faithful.{Agrees, model-made, automata-made, model-start, automaton-start, Is-time, Model-stands, Automata-stand, Correspond, SameRuns}
 use Rattle.faithful.specs.Theorems.{Printing-is-faithful}
-use Rattle.faithful.proofs.Simulation.{Follows, run-too, run-proper}
+use Rattle.semantics.proofs.Simulation.{Follows, run-too, run-proper}
 use Rattle.faithful.proofs.Twins.{Even, even-openings, same-telling, answers-agree, make-same}
 use Rattle.faithful.proofs.Ticks.{Shows}
 use Rattle.faithful.proofs.Law.{Station-law}

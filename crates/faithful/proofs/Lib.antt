@@ -1,4 +1,3 @@
-pub mod Simulation
 pub mod Ticks
 pub mod Law
 pub mod Locations

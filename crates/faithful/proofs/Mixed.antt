@@ -21,7 +21,7 @@ use Rattle.semantics.specs.Print.{place-of, print, print-station}
 use Rattle.semantics.specs.LawfulModels.{LawfulModel}
 use Rattle.faithful.specs.Mixed.{either-rules, MixedState, Stands-in, Stand-in, SameMixedRuns, Mixed-nets-run-alike}
 use Rattle.faithful.specs.Mixed as mixed
-use Rattle.faithful.proofs.Simulation.{Follows, run-too, run-proper}
+use Rattle.semantics.proofs.Simulation.{Follows, run-too, run-proper}
 use Rattle.faithful.proofs.Locations.{width, split-place, all-long}
 use Rattle.faithful.proofs.Printed.{alike-at}
 use Rattle.faithful.proofs.Stations.{Matches}

@@ -22,7 +22,7 @@ use Rattle.semantics.specs.AutomatonRules.{AutomatonState, at-bound, Moves-with
 use Rattle.semantics.specs.Print.{from-on, place-of, print-edge, print-sending, print-move, print-moves, print-quiet, print-station}
 use Rattle.semantics.specs.LawfulModels.{Next-here}
 use Rattle.semantics.proofs.Options.{some-not-none}
-use Rattle.faithful.proofs.Simulation.{Follows}
+use Rattle.semantics.proofs.Simulation.{Follows}
 use Rattle.faithful.proofs.Ticks.{Life-in-ticks, Shows, at-most-same, at-same}
 use Rattle.faithful.proofs.Law.{Edge-law, Phase-law, Station-law}
 use Rattle.faithful.proofs.Locations.{width, drop-some, more-words, busy-location, quiet-at, busy-at}

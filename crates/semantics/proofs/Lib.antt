@@ -5,3 +5,4 @@ pub mod Sound
 pub mod OneTime
 pub mod Lowest
 pub mod Devs
+pub mod Simulation

@@ -10,14 +10,14 @@ use Rattle.semantics.specs.Net.{NetState, state-at}
 use Rattle.semantics.specs.Calls.{make}
 use Rattle.stepping.specs.StationRules.{station-rules}
 use Rattle.stepping.specs.AnyMachine.{at-first, then-called, Reached-over, All-known, Keeps-rules, Reached-are-known, Machine-nets-step}
-use Rattle.stepping.proofs.Simulation.{Follows-suit}
+use Rattle.semantics.proofs.Simulation.{Follows}
 use Rattle.stepping.proofs.Whole.{Whole, call-whole}
 use Rattle.stepping.proofs.Bridge.{In-parts, obeyed-runs, runs-obeyed}
 use Rattle.stepping.proofs.Geared.{long, gear-at, steady, start-whole}
 use Rattle.stepping.proofs.Declined.{declines-exactly}
 
 -- rules follow themselves
-pub forth : (q : ℕ) (m : StationMeaning) → Follows-suit (In-parts q) (station-rules q m) (station-rules q m) (λ x y. y ≡ x)
+pub forth : (q : ℕ) (m : StationMeaning) → Follows (In-parts q) (station-rules q m) (station-rules q m) (λ x y. y ≡ x)
 forth q m = record {
   busy = λ x y s. sym (ap (station-rules q m .busy) s);
   due = λ x y s. sym (ap (station-rules q m .due) s);
@@ -29,7 +29,7 @@ forth q m = record {
   moves = λ x x′ y w r s h. (x′, (subst (λ k. station-rules q m .Moves k w x′) (sym s) h, refl));
 }
 
-back : (q : ℕ) (m : StationMeaning) → Follows-suit (In-parts q) (station-rules q m) (station-rules q m) (λ x y. x ≡ y)
+back : (q : ℕ) (m : StationMeaning) → Follows (In-parts q) (station-rules q m) (station-rules q m) (λ x y. x ≡ y)
 back q m = record {
   busy = λ x y s. ap (station-rules q m .busy) s;
   due = λ x y s. ap (station-rules q m .due) s;

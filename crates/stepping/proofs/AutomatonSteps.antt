@@ -32,7 +32,7 @@ use Rattle.semantics.proofs.Sound.{meanings-sound}
 use Rattle.stepping.specs.StationRules.{station-rules}
 use Rattle.stepping.specs.Obeys.{acts-of}
 use Rattle.stepping.specs.AutomatonNets.{net-of, left, openings, Automata-at, opening-state, Automaton-steps}
-use Rattle.stepping.proofs.Simulation.{Follows-suit}
+use Rattle.semantics.proofs.Simulation.{Follows}
 use Rattle.stepping.proofs.Bridge.{In-parts, left-stood, obeyed-runs, runs-obeyed}
 use Rattle.stepping.proofs.Geared.{paths-good, long, gear-at, some-factor, steady, start-at, start-whole, makes, telling-at}
 use Rattle.stepping.proofs.Settled.{run-one}
@@ -97,16 +97,16 @@ module _ (a : AutomatonNet) (law : LawfulAutomata a) (q : ℕ) (some : 1 ≤ q) 
   abbrev S : ℕ → StationState → AutomatonState → Type 0
   S i = Sited (factor-of i) (at i) q
 
-  forth : (i : ℕ) → i < n → Follows-suit (In-parts q) (station-rules q (meaning-at (geared ms) i)) (rules-of a i) (S i)
+  forth : (i : ℕ) → i < n → Follows (In-parts q) (station-rules q (meaning-at (geared ms) i)) (rules-of a i) (S i)
   forth i l =
       let k = in-automata i l in
-      subst (λ x. Follows-suit (In-parts q) (station-rules q x) (rules-of a i) (S i)) (sym (geared-is i k))
+      subst (λ x. Follows (In-parts q) (station-rules q x) (rules-of a i) (S i)) (sym (geared-is i k))
       (automaton-forth L (at i) (law-at i k) (factor-at i k) q some)
 
-  back : (i : ℕ) → i < n → Follows-suit (In-parts q) (rules-of a i) (station-rules q (meaning-at (geared ms) i)) (λ y x. S i x y)
+  back : (i : ℕ) → i < n → Follows (In-parts q) (rules-of a i) (station-rules q (meaning-at (geared ms) i)) (λ y x. S i x y)
   back i l =
       let k = in-automata i l in
-      subst (λ x. Follows-suit (In-parts q) (rules-of a i) (station-rules q x) (λ y x. S i x y)) (sym (geared-is i k))
+      subst (λ x. Follows (In-parts q) (rules-of a i) (station-rules q x) (λ y x. S i x y)) (sym (geared-is i k))
       (automaton-back L (at i) (law-at i k) (factor-at i k) q some)
 
   abbrev Stands : NetState → (ℕ → AutomatonState) → Type 0

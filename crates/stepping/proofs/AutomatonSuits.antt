@@ -31,7 +31,7 @@ use Rattle.semantics.specs.OneTime.{One-time}
 use Rattle.semantics.proofs.OneTime.{one-time}
 use Rattle.semantics.proofs.Options.{true-not-false, inner}
 use Rattle.stepping.specs.StationRules.{station-rules, parts-in}
-use Rattle.stepping.proofs.Simulation.{Follows-suit}
+use Rattle.semantics.proofs.Simulation.{Follows}
 use Rattle.stepping.proofs.Bridge.{In-parts}
 use Rattle.stepping.proofs.Settled.{Settled}
 use Rattle.stepping.proofs.Firsts.{any-at, first-same, first-found, first-none, none-first, none-fits, only-first}
@@ -334,7 +334,7 @@ module _ (L : ℕ) (a : Automaton) (law : Lawful-automaton a) (geared : 1 ≤ fa
         ),
       )
 
-  pub automaton-forth : Follows-suit (In-parts q) A P S
+  pub automaton-forth : Follows (In-parts q) A P S
   automaton-forth = record {
     busy = busy-suits;
     due = due-suits;
@@ -346,7 +346,7 @@ module _ (L : ℕ) (a : Automaton) (law : Lawful-automaton a) (geared : 1 ≤ fa
     moves = moves-suits;
   }
 
-  pub automaton-back : Follows-suit (In-parts q) P A (λ y x. S x y)
+  pub automaton-back : Follows (In-parts q) P A (λ y x. S x y)
   automaton-back = record {
     busy = λ y x m. sym (busy-suits x y m);
     due = λ y x m. sym (due-suits x y m);

@@ -16,7 +16,7 @@ use Rattle.semantics.specs.Calls.{Call, wait, word, step, bad-paths, answer-cal
 use Rattle.semantics.specs.Runs.{Act, Rules, Does, Run, ended, goes-on}
 use Rattle.stepping.specs.StationRules.{station-rules, Shown}
 use Rattle.stepping.specs.Obeys.{act-of, acts-of, All-obeyed, Enough, All-enough}
-use Rattle.stepping.proofs.Simulation.{Follows-suit, Fit, does-too}
+use Rattle.semantics.proofs.Simulation.{Follows, Fit, does-too}
 use Rattle.stepping.proofs.Whole.{Steady, Whole, call-whole}
 use Rattle.stepping.proofs.Allowed.{does-call, told-or-kept}
 use Rattle.stepping.proofs.Obeyed.{call-obeyed}
@@ -31,8 +31,8 @@ call-fits q (word p v slots) = tt
 call-fits q (step slots) = tt
 
 module _ (ms : Meaning) (q : ℕ) (o : Order) (paths : List Path) (some : 1 ≤ q) (steady : Steady ms) {X : Type 0} (B : ℕ → Rules X) (S : ℕ → StationState → X → Type 0)
-    (forth : (i : ℕ) → i < length ms → Follows-suit (In-parts q) (station-rules q (meaning-at ms i)) (B i) (S i))
-    (back : (i : ℕ) → i < length ms → Follows-suit (In-parts q) (B i) (station-rules q (meaning-at ms i)) (λ x y. S i y x)) where
+    (forth : (i : ℕ) → i < length ms → Follows (In-parts q) (station-rules q (meaning-at ms i)) (B i) (S i))
+    (back : (i : ℕ) → i < length ms → Follows (In-parts q) (B i) (station-rules q (meaning-at ms i)) (λ x y. S i y x)) where
   abbrev net : Net
   net = record { stations = ms; order = o; parts = q }
 

@@ -1,4 +1,3 @@
-pub mod Simulation
 pub mod Firsts
 pub mod Whole
 pub mod Allowed

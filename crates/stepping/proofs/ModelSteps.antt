@@ -29,7 +29,7 @@ use Rattle.semantics.proofs.Sound.{stance-numbers, meanings-sound}
 use Rattle.stepping.specs.StationRules.{station-rules}
 use Rattle.stepping.specs.Obeys.{acts-of}
 use Rattle.stepping.specs.ModelNets.{net-of, left, openings, Model-steps}
-use Rattle.stepping.proofs.Simulation.{Follows-suit}
+use Rattle.semantics.proofs.Simulation.{Follows}
 use Rattle.stepping.proofs.Bridge.{In-parts, left-stood, obeyed-runs, runs-obeyed}
 use Rattle.stepping.proofs.Geared.{paths-good, scaled, long, gear-at, exact, some-factor, steady, start-at, start-whole, makes, telling-at}
 use Rattle.stepping.proofs.Settled.{run-one}
@@ -102,16 +102,16 @@ module _ (m : ModelNet) (law : LawfulModel m) (q : ℕ) (some : 1 ≤ q) where
   abbrev S : ℕ → StationState → ModelState → Type 0
   S i = Sits-at L (st i) q
 
-  forth : (i : ℕ) → i < n → Follows-suit (In-parts q) (station-rules q (meaning-at (geared ms) i)) (rules-of m i) (S i)
+  forth : (i : ℕ) → i < n → Follows (In-parts q) (station-rules q (meaning-at (geared ms) i)) (rules-of m i) (S i)
   forth i l =
       let k = in-stations i l in
-      subst (λ x. Follows-suit (In-parts q) (station-rules q x) (rules-of m i) (S i)) (sym (geared-is i k))
+      subst (λ x. Follows (In-parts q) (station-rules q x) (rules-of m i) (S i)) (sym (geared-is i k))
       (model-forth (m .order) L (st i) (law-at i k) L-some (exact-at i k) (factor-at i k) q some)
 
-  back : (i : ℕ) → i < n → Follows-suit (In-parts q) (rules-of m i) (station-rules q (meaning-at (geared ms) i)) (λ y x. S i x y)
+  back : (i : ℕ) → i < n → Follows (In-parts q) (rules-of m i) (station-rules q (meaning-at (geared ms) i)) (λ y x. S i x y)
   back i l =
       let k = in-stations i l in
-      subst (λ x. Follows-suit (In-parts q) (rules-of m i) (station-rules q x) (λ y x. S i x y)) (sym (geared-is i k))
+      subst (λ x. Follows (In-parts q) (rules-of m i) (station-rules q x) (λ y x. S i x y)) (sym (geared-is i k))
       (model-back (m .order) L (st i) (law-at i k) L-some (exact-at i k) (factor-at i k) q some)
 
   abbrev Stands : NetState → (ℕ → ModelState) → Type 0

@@ -34,7 +34,7 @@ use Rattle.semantics.proofs.Options.{some-not-none, true-not-false, inner}
 use Rattle.semantics.proofs.Lcm.{least-common}
 use Rattle.semantics.proofs.Sound.{stance-numbers}
 use Rattle.stepping.specs.StationRules.{station-rules, parts-in}
-use Rattle.stepping.proofs.Simulation.{Follows-suit}
+use Rattle.semantics.proofs.Simulation.{Follows}
 use Rattle.stepping.proofs.Bridge.{In-parts}
 use Rattle.stepping.proofs.Settled.{Settled}
 use Rattle.stepping.proofs.Firsts.{any-at, first-same, first-found, first-none, none-first, none-fits, only-first}
@@ -369,7 +369,7 @@ module _ (o : Order) (L : ℕ) (st : Station) (law : Lawful-station o st) (scale
         ),
       )
 
-  pub model-forth : Follows-suit (In-parts q) A M Sits
+  pub model-forth : Follows (In-parts q) A M Sits
   model-forth = record {
     busy = busy-suits;
     due = due-suits;
@@ -381,7 +381,7 @@ module _ (o : Order) (L : ℕ) (st : Station) (law : Lawful-station o st) (scale
     moves = moves-suits;
   }
 
-  pub model-back : Follows-suit (In-parts q) M A (λ y x. Sits x y)
+  pub model-back : Follows (In-parts q) M A (λ y x. Sits x y)
   model-back = record {
     busy = λ y x m. sym (busy-suits x y m);
     due = λ y x m. sym (due-suits x y m);

@@ -17,7 +17,7 @@ use Rattle.semantics.specs.Runs.{Rules, Run, ended, goes-on}
 use Rattle.stepping.specs.StationRules.{station-rules, NetRun}
 use Rattle.stepping.specs.AnyMachine.{at-first, then-called, Reached-over}
 use Rattle.stepping.specs.Progress.{Goes-on}
-use Rattle.stepping.proofs.Simulation.{Follows-suit, does-too}
+use Rattle.semantics.proofs.Simulation.{Follows, does-too}
 use Rattle.stepping.proofs.Bridge.{In-parts}
 use Rattle.stepping.proofs.Whole.{Steady}
 use Rattle.stepping.proofs.Geared.{long, steady, start-at, start-whole}
@@ -25,7 +25,7 @@ use Rattle.stepping.proofs.Timely.{fresh-on, Timely, Sure, call-sure, goes-on 
 use Rattle.stepping.proofs.AnyMachine.{forth}
 
 module _ (ms : Meaning) (q : ℕ) (o : Order) (paths : List Path) (some : 1 ≤ q) (steady : Steady ms) {X : Type 0} (B : ℕ → Rules X) (S : ℕ → StationState → X → Type 0)
-    (suits : (i : ℕ) → i < length ms → Follows-suit (In-parts q) (station-rules q (meaning-at ms i)) (B i) (S i)) where
+    (suits : (i : ℕ) → i < length ms → Follows (In-parts q) (station-rules q (meaning-at ms i)) (B i) (S i)) where
   pub progress : bad-paths (length ms) paths ≡ None → (s : NetState) → Sure ms q steady o s → (σ : ℕ → X) → ((i : ℕ) → i < length ms → S i (state-at (s .stations) i) (σ i)) →
       Goes-on (Run B (length ms) o paths) σ
   progress fine s sure σ stood = elim (net-goes-on ms q steady o some paths fine s sure) [

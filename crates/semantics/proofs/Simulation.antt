@@ -1,5 +1,4 @@
--- What the rules of the one side allow, those of the other allow with the same events, where each station's rules follow
--- the other's.
+-- A run by the one side's rules is a run by the other's, with the same events, where each station's rules follow the other's.
 use Prim.Native.Nat.{ℕ, suc, _<_}
 use native.Mathlib.Omega.{arith}
 use lib.Dec.{eqb}
@@ -9,13 +8,13 @@ use mathlib.Core.Logic.{_⊎_, inl, inr}
 use mathlib.Core.Path.{_≡_, refl, sym, _∙_, ap₂, subst}
 use Rattle.std.specs.declared.option.Option.{Option}
 use Rattle.std.proofs.shelf.Tests.{eqb-true}
-use Rattle.semantics.specs.Times.{Fraction, Order}
+use Rattle.semantics.specs.Times.{Fraction, Proper, Order}
 use Rattle.semantics.specs.Trees.{Word, Path}
 use Rattle.semantics.specs.Events.{Event, event, Arrival, External, Internal}
-use Rattle.semantics.specs.Runs.{Act, word, step, delay, Rules, put, All-quiet, None-due, Turn, lowest-busy, lowest-due, Delivered, done, elsewhere, outside, unheard, heard, Sent, nothing, one-word, landing, Does, delayed, worded, stepped}
+use Rattle.semantics.specs.Runs.{Act, word, step, delay, Rules, put, All-quiet, None-due, Turn, lowest-busy, lowest-due, Delivered, done, elsewhere, outside, unheard, heard, Sent, nothing, one-word, landing, Does, delayed, worded, stepped, Run, ended, goes-on}
 
 -- B follows A on the states that S relates, over the delays in D.
-pub record Follows-suit {X Y : Type 0} (D : Fraction → Type 0) (A : Rules X) (B : Rules Y) (S : X → Y → Type 0) : Type 0 where
+pub record Follows {X Y : Type 0} (D : Fraction → Type 0) (A : Rules X) (B : Rules Y) (S : X → Y → Type 0) : Type 0 where
   pub busy : (x : X) (y : Y) → S x y → A .busy x ≡ B .busy y
   pub due : (x : X) (y : Y) → S x y → A .due x ≡ B .due y
   pub phase : (x : X) (y : Y) → S x y → A .phase x ≡ B .phase y
@@ -25,11 +24,15 @@ pub record Follows-suit {X Y : Type 0} (D : Fraction → Type 0) (A : Rules X) (
   pub deaf : (x : X) (y : Y) (p v : ℕ) → S x y → A .Deaf x p v → B .Deaf y p v
   pub moves : (x x′ : X) (y : Y) (w : Option Word) → (A .busy x ≡ true) ⊎ (A .due x ≡ true) → S x y → A .Moves x w x′ → (y′ : Y) × (B .Moves y w y′ × S x′ y′)
 
--- acts whose delays are in D
+-- every act whose delay is in D
 abbrev pub Fit : (Fraction → Type 0) → Act → Type 0
 Fit D (word p v) = Unit {0}
 Fit D step = Unit {0}
 Fit D (delay d) = D d
+
+abbrev pub All-fit : (Fraction → Type 0) → List Act → Type 0
+All-fit D [] = Unit {0}
+All-fit D (a ∷ acts) = Fit D a × All-fit D acts
 
 put-related : {X Y : Type 0} (n : ℕ) (S : ℕ → X → Y → Type 0) (σ : ℕ → X) (τ : ℕ → Y) → ((i : ℕ) → i < n → S i (σ i) (τ i)) → (h : ℕ) (x : X) (y : Y) → S h x y →
     (i : ℕ) → i < n → S i (put σ h x i) (put τ h y i)
@@ -40,7 +43,7 @@ put-related n S σ τ r h x y s i l = go (eqb i h) refl
     go false e = r i l
 
 module _ {X Y : Type 0} (D : Fraction → Type 0) (A : ℕ → Rules X) (B : ℕ → Rules Y) (n : ℕ) (S : ℕ → X → Y → Type 0)
-    (suit : (i : ℕ) → i < n → Follows-suit D (A i) (B i) (S i)) (o : Order) (paths : List Path) where
+    (suit : (i : ℕ) → i < n → Follows D (A i) (B i) (S i)) (o : Order) (paths : List Path) where
   abbrev All-paired : (ℕ → X) → (ℕ → Y) → Type 0
   All-paired σ τ = (i : ℕ) → i < n → S i (σ i) (τ i)
 
@@ -117,3 +120,21 @@ module _ {X Y : Type 0} (D : Fraction → Type 0) (A : ℕ → Rules X) (B : ℕ
           put-related n S σ′ (t .0) (t .1 .1) i x (y .0) (y .1 .1),
         ),
       )
+
+  pub run-too : {σ σ′ : ℕ → X} {acts : List Act} {es : List Event} → (τ : ℕ → Y) → All-paired σ τ → All-fit D acts → Run A n o paths σ acts es σ′ →
+      (τ′ : ℕ → Y) × (Run B n o paths τ acts es τ′ × All-paired σ′ τ′)
+  run-too τ r fit ended = (τ, (ended, r))
+  run-too τ r fit (goes-on g rest) =
+      let t = does-too τ r (fit .0) g in
+      let u = run-too (t .0) (t .1 .1) (fit .1) rest in
+      (u .0, (goes-on (t .1 .0) (u .1 .0), u .1 .1))
+
+-- the delays of a run are proper
+does-proper : {X : Type 0} {A : ℕ → Rules X} {n : ℕ} {o : Order} {paths : List Path} {σ σ′ : ℕ → X} {a : Act} {es : List Event} → Does A n o paths σ a es σ′ → Fit Proper a
+does-proper (delayed good q may) = good
+does-proper (worded q none c) = tt
+does-proper (stepped i w x turn move sent) = tt
+
+pub run-proper : {X : Type 0} {A : ℕ → Rules X} {n : ℕ} {o : Order} {paths : List Path} {σ σ′ : ℕ → X} {acts : List Act} {es : List Event} → Run A n o paths σ acts es σ′ → All-fit Proper acts
+run-proper ended = tt
+run-proper (goes-on g rest) = (does-proper g, run-proper rest)
