@@ -1,6 +1,9 @@
 // A book's records, one to a line, each with its fields by name.
+ghost use mathlib.Core.Path.{_≡_};
+ghost use Rattle.std.specs.Of.String.{string-bytes};
+ghost use Rattle.std.specs.Vec.{made};
+ghost use Rattle.report.specs.Lines.{number-line, refusal-line, Begins};
 use super::account::head_line;
-use super::sentence::meaning;
 use book::bytes::byte_at;
 use book::bytes::row_of;
 use book::bytes::two_at;
@@ -14,6 +17,7 @@ use book::record::ModelBody;
 use book::record::Phase;
 use book::record::Transition;
 use book::record::Window;
+use book::refusal::Fault;
 use book::refusal::Refusal;
 use book::term::BookKind;
 use book::term::Path;
@@ -225,12 +229,7 @@ fn hex_text(heap: Global, row: &[u8]) -> Result<String, AllocError> {
 
 // What record k of a book of that kind holds: its kind and fields, or its bytes where the layout
 // does not hold.
-pub fn record_text(
-    heap: Global,
-    kind: BookKind,
-    book: &[u8],
-    k: u16,
-) -> Result<String, AllocError> {
+fn record_text(heap: Global, kind: BookKind, book: &[u8], k: u16) -> Result<String, AllocError> {
     match kind {
         BookKind::Model => {
             if let Ok(item) = read::<ModelBody>(book, k) {
@@ -265,24 +264,65 @@ pub fn listing(heap: Global, kind: BookKind, book: &[u8]) -> Result<String, Allo
     Ok(text)
 }
 
+// What is wrong, as the end of a sentence that names the place.
+fn meaning(fault: Fault) -> &'static str {
+    match fault {
+        Fault::Length => "the length is not 32 bytes for the head and for each of its records",
+        Fault::Head => "the head's kind, version, order or number of records is wrong",
+        Fault::Layout => "a kind, mark, label, reset byte or zero byte is wrong",
+        Fault::Links => {
+            "an index goes past the end or to another kind, or the record is not named exactly once or not reached from the head"
+        }
+        Fault::Goals =>
+            "a goal, opening or next phase is missing, not wanted or outside the station",
+        Fault::Limits =>
+            "a number is out of its range, or there are too many stations, phases or words",
+        Fault::Scale => "the scale is over 1,000,000",
+        Fault::EmptyWindow => "the window that counts, or the guard up to the bound, holds no time",
+        Fault::SharedMoment => "two edges or hearing transitions share port, value and moment",
+        Fault::Paths => "a path has an unknown station, one station twice, or no station at all",
+        Fault::Location =>
+            "the location's marks, move, resets or move guard are not as printing writes them",
+        Fault::Room => "there is too little room",
+        Fault::Parts => "the parts per net tick are not 1 to 1,000",
+        Fault::Busy => "a station is busy",
+        Fault::Due => "a station is due, and steps come first",
+        Fault::Lifetime => "a lifetime would be passed",
+        Fault::Total => "the total of all waits would be over its limit",
+        Fault::Idle => "no station is busy or due",
+    }
+}
+
 // A refusal as a line of its number and place, and a sentence that says what it means and what the
 // record there holds.
-pub fn refusal_text(heap: Global, book: &[u8], refusal: Refusal) -> Result<String, AllocError> {
-    let number = refusal.fault.number();
+pub fn refusal_text(heap: Global, book: &[u8], refusal: Refusal) -> Result<String, AllocError>
+    ensures { λ r. ⌜ made r (λ t. Begins (refusal-line refusal) (string-bytes t)) ⌝ }
+{
+    let line = number_line(heap, refusal.fault.number(), refusal.place)?;
+    let more = told_at(heap, book, refusal)?;
+    format!(heap, "{line}{more}")
+}
+
+// A number and a place as a line.
+fn number_line(heap: Global, number: u8, place: usize) -> Result<String, AllocError>
+    ensures { λ r. ⌜ made r (λ t. string-bytes t ≡ number-line number place) ⌝ }
+{
+    format!(heap, "- {number} {place}\n")
+}
+
+// What the refusal means, and what the record at its place holds.
+fn told_at(heap: Global, book: &[u8], refusal: Refusal) -> Result<String, AllocError> {
     let place = refusal.place;
     let says = meaning(refusal.fault);
     if place == 0 {
         let size = book.len();
         let head = hex_text(heap, row_of(book, 0))?;
-        return format!(
-            heap,
-            "- {number} {place}\nthe book: {says}\n{size} bytes; head: {head}\n"
-        );
+        return format!(heap, "the book: {says}\n{size} bytes; head: {head}\n");
     }
     let kind = BookKind::from_byte(byte_at(book, 0)).unwrap_or(BookKind::Model);
     let record = record_text(heap, kind, book, u16::try_from(place).unwrap_or(0))?;
     format!(
         heap,
-        "- {number} {place}\nrecord {place}: {says}\nrecord {place} holds {record}\n"
+        "record {place}: {says}\nrecord {place} holds {record}\n"
     )
 }
