@@ -27,11 +27,11 @@ use Rattle.semantics.proofs.Lowest.{is-lowest, all-fail, none-found, found}
 use Rattle.stepping.specs.Declines.{None-has, Lowest-with, blank-path, Bad-path, Is-busy, Is-due, Runs-past, Checked, Declines, wait-busy, wait-past, wait-over, word-path, word-room, word-busy, word-due, step-path, step-room, step-idle}
 
 -- a search that answers by a property: nothing where no place has it, else the lowest, counted from 1
-record Finds (P : ℕ → Type 0) (n : ℕ) (u : Option ℕ) : Type 0 where
-  none : u ≡ None → None-has P n
-  found-none : None-has P n → u ≡ None
-  at : (k : ℕ) → u ≡ Some k → Lowest-with P n k
-  found-at : (k : ℕ) → Lowest-with P n k → u ≡ Some k
+pub record Finds (P : ℕ → Type 0) (n : ℕ) (u : Option ℕ) : Type 0 where
+  pub none : u ≡ None → None-has P n
+  pub found-none : None-has P n → u ≡ None
+  pub at : (k : ℕ) → u ≡ Some k → Lowest-with P n k
+  pub found-at : (k : ℕ) → Lowest-with P n k → u ≡ Some k
 
 number-none : (u : Option ℕ) → number u ≡ None → u ≡ None
 number-none None e = refl
@@ -41,7 +41,7 @@ number-some : (u : Option ℕ) (k : ℕ) → number u ≡ Some k → (i : ℕ) �
 number-some None k e = absurd (some-not-none k (sym e))
 number-some (Some i) k e = (i, (refl, sym (inner e)))
 
-finds-lowest : (p : ℕ → Bool) (P : ℕ → Type 0) → ((i : ℕ) → Decides (p i) (P i)) → (n : ℕ) → Finds P n (number (lowest p 0 n))
+pub finds-lowest : (p : ℕ → Bool) (P : ℕ → Type 0) → ((i : ℕ) → Decides (p i) (P i)) → (n : ℕ) → Finds P n (number (lowest p 0 n))
 finds-lowest p P decides n = record {
   none = λ e i l h. true-not-false (sym (decides i .1 h) ∙ all-fail p 0 n (number-none _ e) i (omega arith) (omega arith));
   found-none = λ h. ap number (none-found p 0 n (λ j a b. not-so j (h j (omega arith))));
@@ -101,33 +101,63 @@ mapped-same : (f g : ℕ → ℕ) → ((i : ℕ) → f i ≡ g i) → (u : Optio
 mapped-same f g h None = refl
 mapped-same f g h (Some i) = ap Some (h i)
 
-bad-number : (n : ℕ) (ps : List Path) → bad-paths n ps ≡ number (lowest (λ i. bad-path n (getD ps i blank-path)) 0 (length ps))
-bad-number n ps = first-lowest (bad-path n) blank-path ps 0 ∙ mapped-same _ suc (λ i. omega arith) _
+pub first-number : {A : Type 0} (bad : A → Bool) (d : A) (xs : List A) → first-bad bad 1 xs ≡ number (lowest (λ i. bad (getD xs i d)) 0 (length xs))
+first-number bad d xs = first-lowest bad d xs 0 ∙ mapped-same _ suc (λ i. omega arith) _
 
 -- declined by one refusal, or by what follows it
 err-same : (f g : Fault) (k j : ℕ) → _≡_ {A = Answer} (Err (refused f j)) (Err (refused g k)) → (f ≡ g) × (j ≡ k)
 err-same f g k j e = let r : refused f j ≡ refused g k = cc in (ap (λ x. x .fault) r, ap (λ x. x .place) r)
 
-ok-not-err : (es : List Event) (f : Fault) (k : ℕ) → _≡_ {A = Answer} (Ok es) (Err (refused f k)) → ⊥
+pub ok-not-err : (es : List Event) (f : Fault) (k : ℕ) → _≡_ {A = Answer} (Ok es) (Err (refused f k)) → ⊥
 ok-not-err es f k e = let z : _≡_ {A = ℕ} 0 1 = cc in omega arith
 
-module _ (s : NetState) (g : Fault) (k : ℕ) (R : Fault → ℕ → Type 0) where
-  by-cases : (u : Option ℕ) (f : Fault) (r : Outcome) → ((j : ℕ) → u ≡ Some j → R f j) → (u ≡ None → r .answer ≡ Err (refused g k) → R g k) →
-      unless u (declined f s) r .answer ≡ Err (refused g k) → R g k
-  by-cases None f r here later h = later refl h
-  by-cases (Some j) f r here later h = let e = err-same f g k j h in subst₂ R (e .0) (e .1) (here j refl)
+module _ {A : Type 0} (answer-of : A → Answer) (no : Fault → ℕ → A) (told : (f : Fault) (j : ℕ) → answer-of (no f j) ≡ Err (refused f j)) (g : Fault) (k : ℕ) (R : Fault → ℕ → Type 0) where
+  pub cases : (u : Option ℕ) (f : Fault) (r : A) → ((j : ℕ) → u ≡ Some j → R f j) → (u ≡ None → answer-of r ≡ Err (refused g k) → R g k) →
+      answer-of (unless u (no f) r) ≡ Err (refused g k) → R g k
+  cases None f r here later h = later refl h
+  cases (Some j) f r here later h = let e = err-same f g k j (sym (told f j) ∙ h) in subst₂ R (e .0) (e .1) (here j refl)
 
-zero-none : (b : Bool) → at-zero b ≡ None → b ≡ false
+by-cases : (s : NetState) (g : Fault) (k : ℕ) (R : Fault → ℕ → Type 0) (u : Option ℕ) (f : Fault) (r : Outcome) → ((j : ℕ) → u ≡ Some j → R f j) →
+    (u ≡ None → r .answer ≡ Err (refused g k) → R g k) → unless u (declined f s) r .answer ≡ Err (refused g k) → R g k
+by-cases s = cases (λ (r : Outcome). r .answer) (λ f j. declined f s j) (λ f j. refl)
+
+pub zero-none : (b : Bool) → at-zero b ≡ None → b ≡ false
 zero-none true e = absurd (some-not-none 0 e)
 zero-none false e = refl
 
-zero-some : (b : Bool) (k : ℕ) → at-zero b ≡ Some k → (b ≡ true) × (k ≡ 0)
+pub zero-some : (b : Bool) (k : ℕ) → at-zero b ≡ Some k → (b ≡ true) × (k ≡ 0)
 zero-some true k e = (refl, sym (inner e))
 zero-some false k e = absurd (some-not-none k (sym e))
 
 either-none : (u w : Option ℕ) → orOther u w ≡ None → (u ≡ None) × (w ≡ None)
 either-none None w e = (refl, e)
 either-none (Some x) w e = absurd (some-not-none x e)
+
+-- paths, with n stations
+module _ (n : ℕ) (paths : List Path) where
+  bad-decides : (i : ℕ) → Decides (bad-path n (getD paths i blank-path)) (Bad-path n paths i)
+  bad-decides i = (there, back)
+    where
+      there : bad-path n (getD paths i blank-path) ≡ true → Bad-path n paths i
+      there h = go (or-cases _ _ h)
+        where
+          ends : (ltb n (getD paths i blank-path .sender) ≡ true) ⊎ (ltb n (getD paths i blank-path .hearer) ≡ true) → Bad-path n paths i
+          ends (inl x) = inl (inl (ltb-true _ _ x))
+          ends (inr x) = inl (inr (ltb-true _ _ x))
+
+          go : ((ltb n (getD paths i blank-path .sender) || ltb n (getD paths i blank-path .hearer)) ≡ true) ⊎ (eqb (getD paths i blank-path .sender) (getD paths i blank-path .hearer) ≡ true) → Bad-path n paths i
+          go (inl x) = ends (or-cases _ _ x)
+          go (inr x) = inr (eqb-true _ _ x)
+
+      back : Bad-path n paths i → bad-path n (getD paths i blank-path) ≡ true
+      back (inl (inl x)) = or-left _ _ (or-left _ _ (lt-ltb _ _ x))
+      back (inl (inr x)) = or-left _ _ (or-right _ _ (lt-ltb _ _ x))
+      back (inr x) = or-right _ _ (eq-eqb _ _ x)
+
+  pub path-found : Finds (Bad-path n paths) (length paths) (bad-paths n paths)
+  path-found =
+      subst (Finds (Bad-path n paths) (length paths)) (sym (first-number (bad-path n) blank-path paths))
+      (finds-lowest (λ i. bad-path n (getD paths i blank-path)) (Bad-path n paths) bad-decides (length paths))
 
 module _ (net : Net) (paths : List Path) (s : NetState) where
   abbrev n : ℕ
@@ -163,25 +193,6 @@ module _ (net : Net) (paths : List Path) (s : NetState) where
   past-decides : (d i : ℕ) → Decides (past-at (net .stations) (net .parts) (s .stations) d i) (Runs-past net paths s d i)
   past-decides d i = runs-so _ _
 
-  bad-decides : (i : ℕ) → Decides (bad-path n (getD paths i blank-path)) (Bad-path net paths s i)
-  bad-decides i = (there, back)
-    where
-      there : bad-path n (getD paths i blank-path) ≡ true → Bad-path net paths s i
-      there h = go (or-cases _ _ h)
-        where
-          ends : (ltb n (getD paths i blank-path .sender) ≡ true) ⊎ (ltb n (getD paths i blank-path .hearer) ≡ true) → Bad-path net paths s i
-          ends (inl x) = inl (inl (ltb-true _ _ x))
-          ends (inr x) = inl (inr (ltb-true _ _ x))
-
-          go : ((ltb n (getD paths i blank-path .sender) || ltb n (getD paths i blank-path .hearer)) ≡ true) ⊎ (eqb (getD paths i blank-path .sender) (getD paths i blank-path .hearer) ≡ true) → Bad-path net paths s i
-          go (inl x) = ends (or-cases _ _ x)
-          go (inr x) = inr (eqb-true _ _ x)
-
-      back : Bad-path net paths s i → bad-path n (getD paths i blank-path) ≡ true
-      back (inl (inl x)) = or-left _ _ (or-left _ _ (lt-ltb _ _ x))
-      back (inl (inr x)) = or-left _ _ (or-right _ _ (lt-ltb _ _ x))
-      back (inr x) = or-right _ _ (eq-eqb _ _ x)
-
   busy-found : Finds (Is-busy net paths s) n (number (calls.lowest-busy net s))
   busy-found = finds-lowest _ (Is-busy net paths s) busy-decides n
 
@@ -191,8 +202,8 @@ module _ (net : Net) (paths : List Path) (s : NetState) where
   past-found : (d : ℕ) → Finds (Runs-past net paths s d) n (number (calls.lowest-past net s d))
   past-found d = finds-lowest _ (Runs-past net paths s d) (past-decides d) n
 
-  bad-found : Finds (Bad-path net paths s) (length paths) (bad-paths n paths)
-  bad-found = subst (Finds (Bad-path net paths s) (length paths)) (sym (bad-number n paths)) (finds-lowest _ (Bad-path net paths s) bad-decides (length paths))
+  abbrev bad-found : Finds (Bad-path n paths) (length paths) (bad-paths n paths)
+  bad-found = path-found n paths
 
   abbrev D : Call → Fault → ℕ → Type 0
   D = Declines net paths s

@@ -10,6 +10,7 @@ pub mod ModelSteps
 pub mod AutomatonSuits
 pub mod AutomatonSteps
 pub mod Declined
+pub mod Makings
 pub mod AnyMachine
 pub mod Settled
 pub mod Timely

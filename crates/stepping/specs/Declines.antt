@@ -29,15 +29,16 @@ pub record Lowest-with (P : ℕ → Type 0) (n k : ℕ) : Type 0 where
 abbrev pub blank-path : Path
 blank-path = record { sender = 0; «sender_port» = 0; hearer = 0; «hearer_port» = 0 }
 
+-- of n stations and these paths: the path of that place names an unknown station, or goes from a station, or the outside,
+-- to itself
+abbrev pub Bad-path : ℕ → List Path → ℕ → Type 0
+Bad-path n paths i =
+    ((n < getD paths i blank-path .sender) ⊎ (n < getD paths i blank-path .hearer))
+    ⊎ (getD paths i blank-path .sender ≡ getD paths i blank-path .hearer)
+
 module _ (net : Net) (paths : List Path) (s : NetState) where
   abbrev pub stations : ℕ
   stations = length (net .stations)
-
-  -- the path of that place names an unknown station, or goes from a station, or the outside, to itself
-  abbrev pub Bad-path : ℕ → Type 0
-  Bad-path i =
-      ((stations < getD paths i blank-path .sender) ⊎ (stations < getD paths i blank-path .hearer))
-      ⊎ (getD paths i blank-path .sender ≡ getD paths i blank-path .hearer)
 
   -- the station of that place is busy; it is quiet and its elapsed parts are its lifetime; d more are past its lifetime
   abbrev pub Is-busy : ℕ → Type 0
@@ -54,17 +55,17 @@ module _ (net : Net) (paths : List Path) (s : NetState) where
   -- The conditions, each after those before it in its call have failed to hold. Words and steps have their paths and room
   -- looked at alike.
   abbrev pub Checked : ℕ → Type 0
-  Checked slots = None-has Bad-path (length paths) × (room paths ≤ slots)
+  Checked slots = None-has (Bad-path stations paths) (length paths) × (room paths ≤ slots)
 
   pub data Declines : Call → Fault → ℕ → Type 0 where
     wait-busy : {d k : ℕ} → Lowest-with Is-busy stations k → Declines (wait d) Busy k
     wait-past : {d k : ℕ} → None-has Is-busy stations → Lowest-with (Runs-past d) stations k → Declines (wait d) Lifetime k
     wait-over : {d : ℕ} → None-has Is-busy stations → None-has (Runs-past d) stations → 10 ^ 15 < s .total + d → Declines (wait d) Total 0
-    word-path : {port value slots k : ℕ} → Lowest-with Bad-path (length paths) k → Declines (word port value slots) Paths k
-    word-room : {port value slots : ℕ} → None-has Bad-path (length paths) → slots < room paths → Declines (word port value slots) Room 0
+    word-path : {port value slots k : ℕ} → Lowest-with (Bad-path stations paths) (length paths) k → Declines (word port value slots) Paths k
+    word-room : {port value slots : ℕ} → None-has (Bad-path stations paths) (length paths) → slots < room paths → Declines (word port value slots) Room 0
     word-busy : {port value slots k : ℕ} → Checked slots → Lowest-with Is-busy stations k → Declines (word port value slots) Busy k
     word-due : {port value slots k : ℕ} → Checked slots → None-has Is-busy stations → net .order ≡ StepFirst → Lowest-with Is-due stations k →
         Declines (word port value slots) Due k
-    step-path : {slots k : ℕ} → Lowest-with Bad-path (length paths) k → Declines (step slots) Paths k
-    step-room : {slots : ℕ} → None-has Bad-path (length paths) → slots < room paths → Declines (step slots) Room 0
+    step-path : {slots k : ℕ} → Lowest-with (Bad-path stations paths) (length paths) k → Declines (step slots) Paths k
+    step-room : {slots : ℕ} → None-has (Bad-path stations paths) (length paths) → slots < room paths → Declines (step slots) Room 0
     step-idle : {slots : ℕ} → Checked slots → None-has Is-busy stations → None-has Is-due stations → Declines (step slots) Idle 0

@@ -6,3 +6,4 @@ pub mod Declines
 pub mod AnyMachine
 pub mod Determined
 pub mod Progress
+pub mod Makings

@@ -1,5 +1,6 @@
 // Nets keep the rules: theorems about the definitions of nets and of runs. Each function carries one on its contract.
 ghost use Rattle.stepping.specs.AnyMachine.{Reached-are-known, Machine-nets-step};
+ghost use Rattle.stepping.specs.Makings.{Makings-decline};
 ghost use Rattle.stepping.specs.Determined.{Runs-are-determined};
 ghost use Rattle.stepping.specs.Progress.{Nets-progress};
 ghost use Rattle.stepping.specs.ModelNets.{Model-nets-step};
@@ -31,6 +32,13 @@ pub fn reached_are_known() -> u8
 // where a refusal's condition is the first of that call to hold.
 pub fn machine_nets_step() -> u8
     ensures { λ _. ⌜ Machine-nets-step ⌝ }
+{
+    0
+}
+
+// A making is declined exactly where a refusal's condition is the first to hold, there, and succeeds where none does.
+pub fn makings_decline() -> u8
+    ensures { λ _. ⌜ Makings-decline ⌝ }
 {
     0
 }
