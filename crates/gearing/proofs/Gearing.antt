@@ -46,8 +46,7 @@ length-from i (m ∷ ms) fs = ap suc (length-from (suc i) ms fs)
 stations-from : (i : ℕ) (ms : Meaning) (fs : List ℕ) → All SoundStation ms → All SoundStation (geared-from i ms fs)
 stations-from i [] fs sound = tt
 stations-from i (m ∷ ms) fs sound =
-    let f = wanted fs i in
-    (
+    let f = wanted fs i in (
       gearing-sound .one-station (in-use (m .scale) f) m (some-in-use (m .scale) f) (in-use-fits (m .scale) f (sound .0 .scale-fits)) (sound .0),
       stations-from (suc i) ms fs (sound .1),
     )
