@@ -14,6 +14,17 @@ module _ (p : ℕ → Bool) (n i : ℕ) (answer : Option ℕ) where
       let next : suc i ≡ i + 1 = omega arith in
       ap (lowest p i) one-less ∙ ap₂ (λ t j. cond t (Some i) (lowest p j (n - (i + 1)))) (sym is) next
 
+  -- the answer as a place
+  pub place-found : i < n → true ≡ p i → lowest p i (n - i) ≡ answer → Some i ≡ answer
+  place-found below is rest = sym (turn true below is) ∙ rest
+
+  pub place-more : i < n → false ≡ p i → lowest p i (n - i) ≡ answer → lowest p (i + 1) (n - (i + 1)) ≡ answer
+  place-more below is rest = sym (turn false below is) ∙ rest
+
+  pub place-none : n ≤ i → lowest p i (n - i) ≡ answer → None ≡ answer
+  place-none past rest = let none-left : 0 ≡ n - i = omega arith in ap (lowest p i) none-left ∙ rest
+
+  -- the answer as a station's number
   pub lowest-found : i < n → true ≡ p i → number (lowest p i (n - i)) ≡ answer → Some (i + 1) ≡ answer
   lowest-found below is rest = let next : i + 1 ≡ suc i = omega arith in ap Some next ∙ sym (ap number (turn true below is)) ∙ rest
 
