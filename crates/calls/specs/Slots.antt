@@ -9,6 +9,8 @@ use Rattle.std.specs.declared.result.Result.the-variants.{Ok, Err}
 use Rattle.book.specs.declared.refusal.Refusal.{Refusal}
 use Rattle.book.specs.declared.event.Event.{Event}
 use Rattle.book.specs.declared.term.Order.{Order}
+use Rattle.book.specs.declared.term.Order.the-variants.{StepFirst, WordFirst}
+use Rattle.std.specs.declared.option.Option.the-variants.{None}
 use Rattle.semantics.specs.declared.state.StationState.{StationState}
 use Rattle.semantics.specs.Machine.{Meaning}
 use Rattle.semantics.specs.Net.{Net, NetState, busy-at, due-at}
@@ -32,3 +34,8 @@ state-of σ t = record { stations = σ; total = t }
 -- the place that a step acts for, among n: the lowest busy one, else the lowest due one
 abbrev pub turn : Meaning → ℕ → List StationState → ℕ → Option ℕ
 turn ms q σ n = orOther (lowest (busy-at ms σ) 0 n) (lowest (due-at ms q σ) 0 n)
+
+-- the place of a due station that keeps words out, among n: none under word first
+abbrev pub due-among : Meaning → Order → ℕ → List StationState → ℕ → Option ℕ
+due-among ms StepFirst q σ n = lowest (due-at ms q σ) 0 n
+due-among ms WordFirst q σ n = None
