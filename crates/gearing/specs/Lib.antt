@@ -1,0 +1,2 @@
+pub mod Gearing
+pub mod Laws
