@@ -1,0 +1,10 @@
+pub mod Simulation
+pub mod Ticks
+pub mod Law
+pub mod Locations
+pub mod Twins
+pub mod Printed
+pub mod Stations
+pub mod Nets
+pub mod Faithful
+pub mod PrintedLawful

@@ -1,0 +1,5 @@
+pub mod Sizes
+pub mod Widths
+pub mod Rows
+pub mod Laid
+pub mod ReadsBack

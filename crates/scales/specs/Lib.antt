@@ -1,0 +1,3 @@
+pub mod Limited
+pub mod Divisors
+pub mod Examples

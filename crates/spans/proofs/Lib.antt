@@ -1,0 +1,3 @@
+mod Order
+pub mod Windows
+pub mod Taking

@@ -1,0 +1,14 @@
+pub mod Simulation
+pub mod Firsts
+pub mod Whole
+pub mod Allowed
+pub mod Obeyed
+pub mod Bridge
+pub mod Scaled
+pub mod ModelSuits
+pub mod Geared
+pub mod ModelSteps
+pub mod AutomatonSuits
+pub mod AutomatonSteps
+pub mod Declined
+pub mod AnyMachine
