@@ -11,13 +11,13 @@ use Rattle.book.specs.declared.record.HighEnd.the-variants.{Closed, Open, Absen
 use Rattle.book.specs.declared.record.Label.{Label}
 use Rattle.book.specs.declared.record.Label.the-variants.{Silent, Hears, Sends}
 use Rattle.book.specs.declared.record.Transition.{Transition}
-use Rattle.links.specs.Naming.{member}
-use Rattle.visits.specs.Visits.{Rule, followed}
+use Rattle.visits.specs.Visits.{Rule, phases}
+use Rattle.chains.specs.Some.{among}
 use Rattle.fields.specs.Fields.{automaton-at, location-at, transition-at}
 
 -- record k is no location of automaton a
 abbrev pub outside : List ℕ → ℕ → ℕ → Bool
-outside b a k = not (member k (followed b (automaton-at b a .«first_location»)))
+outside b a k = not (among k (phases b a))
 
 -- Goals: openings and goals are locations of the record's own automaton.
 abbrev pub goals : List ℕ → Rule

@@ -3,6 +3,8 @@ ghost use mathlib.Core.Path.{_≡_};
 ghost use Rattle.visits.specs.Smallest.{smallest};
 ghost use Rattle.visits.specs.Visits.{faults};
 ghost use Rattle.automaton_rules.specs.Rules.{outside, goals};
+use book::bytes::row_of;
+use book::bytes::two_at;
 use book::record::AutomatonBody;
 use chains::member::is_in_chain;
 use fields::automaton::automaton_at;
@@ -15,7 +17,7 @@ use visits::rule::first_fault;
 fn is_outside(book: &[u8], a: u16, k: u16) -> bool
     ensures { λ r. ⌜ r ≡ outside (now (book .entry)) a k ⌝ }
 {
-    !is_in_chain::<AutomatonBody>(book, automaton_at(book, a).first_location, k)
+    !is_in_chain::<AutomatonBody>(book, two_at(row_of(book, a), 4), k)
 }
 
 #[derive(Drop)]

@@ -1,8 +1,13 @@
 -- The fields of record k of a book, as its bytes give them. A record is read as whatever kind is asked for.
+use mathlib.Core.Bool.{Bool, cond, _&&_}
 use mathlib.Core.List.{List}
 use Prim.Native.Nat.{ℕ}
+use lib.Dec.{eqb}
 use lib.ListN.{drop}
+use Rattle.std.specs.declared.option.Option.{Option}
+use Rattle.std.specs.declared.option.Option.the-variants.{Some, None}
 use Rattle.book.specs.Bytes.{at, row}
+use Rattle.book.specs.declared.record.Fraction.{Fraction}
 use Rattle.book.specs.declared.record.Station.{Station}
 use Rattle.book.specs.declared.record.Phase.{Phase}
 use Rattle.book.specs.declared.record.Edge.{Edge}
@@ -44,3 +49,11 @@ transition-at b k = transition-in (marks-of b k) (rest-of b k)
 -- of either
 abbrev pub path-at : List ℕ → ℕ → Path
 path-at b k = path-in (rest-of b k)
+
+-- 0/0 is endless
+abbrev pub is-endless : Fraction → Bool
+is-endless t = eqb (t .numerator) 0 && eqb (t .denominator) 0
+
+-- the lifetime of phase p; an endless one has none
+abbrev pub lifetime-at : List ℕ → ℕ → Option Fraction
+lifetime-at b p = cond (is-endless (phase-at b p .lifetime)) None (Some (phase-at b p .lifetime))

@@ -1,8 +1,6 @@
 // The records of a model book.
 ghost use mathlib.Core.Path.{_≡_};
-ghost use Prim.Native.Nat.{_+_};
-ghost use Rattle.records.specs.Fields.{fraction-in};
-ghost use Rattle.fields.specs.Fields.{station-at, phase-at, edge-at};
+ghost use Rattle.fields.specs.Fields.{station-at, phase-at, edge-at, is-endless, lifetime-at};
 use super::row::marks_of;
 use super::row::rest_of;
 use super::row::window_by;
@@ -58,4 +56,19 @@ pub fn edge_at(book: &[u8], k: u16) -> Edge
         highest: byte_at(rest, 4),
         window: window_by(marks_of(book, k), low, high),
     }
+}
+
+// Whether the lifetime is endless: 0/0.
+pub fn is_endless(time: Fraction) -> bool
+    ensures { λ r. ⌜ r ≡ is-endless time ⌝ }
+{
+    time.numerator == 0 && time.denominator == 0
+}
+
+// The lifetime of a phase; an endless one has none.
+pub fn lifetime_at(book: &[u8], k: u16) -> Option<Fraction>
+    ensures { λ r. ⌜ r ≡ lifetime-at (now (book .entry)) k ⌝ }
+{
+    let time = phase_at(book, k).lifetime;
+    if is_endless(time) { None } else { Some(time) }
 }

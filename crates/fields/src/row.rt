@@ -1,11 +1,13 @@
 // What records of both kinds of book have.
 ghost use mathlib.Core.Path.{_≡_};
-ghost use Rattle.records.specs.Fields.{fraction-in, window};
+ghost use Rattle.records.specs.Fields.{window};
+ghost use Rattle.records.specs.Heads.{order-in};
 ghost use Rattle.fields.specs.Fields.{marks-of, rest-of, path-at};
 use book::bytes::byte_at;
 use book::bytes::row_of;
 use book::record::HighEnd;
 use book::record::Window;
+use book::term::Order;
 use book::term::Path;
 
 // The bytes of a record behind its next index.
@@ -14,6 +16,13 @@ pub fn rest_of(book: &[u8], k: u16) -> &[u8]
 {
     let row = row_of(book, k);
     &row[row.len().min(4)..]
+}
+
+// The order of a book; step first where its head has none.
+pub fn order_in(book: &[u8]) -> Order
+    ensures { λ r. ⌜ r ≡ order-in (now (book .entry)) ⌝ }
+{
+    Order::from_byte(byte_at(book, 4)).unwrap_or(Order::StepFirst)
 }
 
 // The marks of a record.

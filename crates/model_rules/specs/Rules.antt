@@ -8,17 +8,13 @@ use Rattle.book.specs.declared.record.Fraction.{Fraction}
 use Rattle.book.specs.declared.record.HighEnd.{HighEnd}
 use Rattle.book.specs.declared.record.HighEnd.the-variants.{Closed, Open, Absent}
 use Rattle.book.specs.declared.record.Phase.{Phase}
-use Rattle.links.specs.Naming.{member}
-use Rattle.visits.specs.Visits.{Rule, followed}
-use Rattle.fields.specs.Fields.{station-at, phase-at, edge-at}
+use Rattle.visits.specs.Visits.{Rule, phases}
+use Rattle.chains.specs.Some.{among}
+use Rattle.fields.specs.Fields.{station-at, phase-at, edge-at, is-endless}
 
 -- record k is no phase of station s
 abbrev pub outside : List ℕ → ℕ → ℕ → Bool
-outside b s k = not (member k (followed b (station-at b s .«first_phase»)))
-
--- 0/0 is endless
-abbrev pub is-endless : Fraction → Bool
-is-endless t = eqb (t .numerator) 0 && eqb (t .denominator) 0
+outside b s k = not (among k (phases b s))
 
 -- an endless phase has neither a next phase nor a word, and a finite one has a next phase in its station
 abbrev pub wrong-next : List ℕ → ℕ → Phase → Bool

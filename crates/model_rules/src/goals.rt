@@ -3,11 +3,13 @@ ghost use mathlib.Core.Path.{_≡_};
 ghost use Rattle.visits.specs.Smallest.{smallest};
 ghost use Rattle.visits.specs.Visits.{faults};
 ghost use Rattle.model_rules.specs.Rules.{outside, wrong-next, goals};
-use super::time::is_endless;
+use book::bytes::row_of;
+use book::bytes::two_at;
 use book::record::ModelBody;
 use book::record::Phase;
 use chains::member::is_in_chain;
 use fields::model::edge_at;
+use fields::model::is_endless;
 use fields::model::phase_at;
 use fields::model::station_at;
 use links::link::ModelLinked;
@@ -18,7 +20,7 @@ use visits::rule::first_fault;
 fn is_outside(book: &[u8], s: u16, k: u16) -> bool
     ensures { λ r. ⌜ r ≡ outside (now (book .entry)) s k ⌝ }
 {
-    !is_in_chain::<ModelBody>(book, station_at(book, s).first_phase, k)
+    !is_in_chain::<ModelBody>(book, two_at(row_of(book, s), 4), k)
 }
 
 // Whether the phase's next phase and words do not suit its lifetime.

@@ -1,19 +1,13 @@
 // Fractions as they stand in a book.
 ghost use mathlib.Core.Path.{_≡_};
-ghost use Rattle.model_rules.specs.Rules.{is-endless, too-large, wrong-time, wrong-lifetime, wrong-high};
+ghost use Rattle.model_rules.specs.Rules.{wrong-time, wrong-lifetime, wrong-high};
 use book::record::Fraction;
 use book::record::HighEnd;
+use fields::model::is_endless;
 
 const MOST_NUMERATOR: u32 = 1_000_000;
 
 const MOST_DENOMINATOR: u32 = 1_000;
-
-// Whether the lifetime is endless: 0/0.
-pub fn is_endless(time: Fraction) -> bool
-    ensures { λ r. ⌜ r ≡ is-endless time ⌝ }
-{
-    time.numerator == 0 && time.denominator == 0
-}
 
 // Whether the fraction is no time, or past the limits.
 pub fn is_wrong_time(time: Fraction) -> bool
