@@ -1,0 +1,3 @@
+pub mod Some
+pub mod Paths
+pub mod EdgeRules

@@ -1,0 +1,5 @@
+// The rules of a model book about goals and about limits.
+
+pub mod goals;
+pub mod limits;
+mod time;
