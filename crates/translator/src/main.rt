@@ -1,6 +1,7 @@
 // The station translator: takes books apart, judges them and gives an account.
 use book::bytes::byte_at;
 use book::term::BookKind;
+use check::check;
 use report::account::account;
 use report::listing::listing;
 use report::listing::refusal_text;
@@ -8,7 +9,6 @@ use std::alloc::AllocError;
 use std::env;
 use std::fs;
 use std::io;
-use structure::structure;
 
 const USAGE: &str = "usage:
   translator check BOOK   judge a book, and give an account of it or the refusal
@@ -35,11 +35,11 @@ impl From<AllocError> for Stop as StopFromAlloc {
 }
 
 // Judges a book: an account where it passes, else the refusal.
-fn check(rt: &LibcRuntime, book: &[u8]) -> Result<(), Stop> {
-    match structure(book) {
+fn judge(rt: &LibcRuntime, book: &[u8]) -> Result<(), Stop> {
+    match check(book) {
         Ok(kind) => {
             let text = account(rt.alloc(), kind, book)?;
-            print!(rt, "{text}structure sound, rules not yet judged\n")?;
+            print!(rt, "{text}lawful\n")?;
             Ok(())
         }
         Err(refusal) => {
@@ -56,7 +56,7 @@ fn show(rt: &LibcRuntime, book: &[u8]) -> Result<(), Stop> {
         let text = listing(rt.alloc(), kind, book)?;
         print!(rt, "{text}")?;
     }
-    if let Err(refusal) = structure(book) {
+    if let Err(refusal) = check(book) {
         let text = refusal_text(rt.alloc(), book, refusal)?;
         print!(rt, "{text}")?;
         return Err(Stop::Refused);
@@ -97,7 +97,7 @@ fn run(rt: &LibcRuntime) -> Result<(), Stop> {
         return misused(rt);
     }
     match command.as_str() {
-        "check" => check(rt, &read_book(rt, &path)?),
+        "check" => judge(rt, &read_book(rt, &path)?),
         "show" => show(rt, &read_book(rt, &path)?),
         _ => misused(rt),
     }
