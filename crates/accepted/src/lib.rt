@@ -1,1 +1,3 @@
 // Books that the check accepts: what is known of their trees.
+
+#![tactic(auto)]

@@ -1,5 +1,8 @@
 // The rule of an automaton book about locations: marks, moves, resets and the guards of moves are
 // as printing writes them.
+
+#![tactic(auto)]
+
 ghost use Rattle.std.specs.Prelude.{◌≡◌, not, length};
 ghost use Rattle.visits.specs.Smallest.{smallest};
 ghost use Rattle.visits.specs.Visits.{faults, followed};

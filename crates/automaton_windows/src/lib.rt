@@ -1,4 +1,7 @@
 // The rules of an automaton book about the guards of its transitions.
+
+#![tactic(auto)]
+
 ghost use Rattle.std.specs.Prelude.{◌≡◌, not, ◌&&◌, ◌==◌};
 ghost use Rattle.visits.specs.Smallest.{smallest};
 ghost use Rattle.chains.specs.EdgeRules.{faulty_edges};

@@ -1,4 +1,7 @@
 // The check of a book.
+
+#![tactic(auto)]
+
 ghost use Rattle.std.specs.Prelude.{◌≡◌, Ok};
 ghost use Rattle.structure.specs.Structure.{unless, at_0};
 ghost use Rattle.book_check.specs.Check.{check_model, check_automaton, check_of};

@@ -1,5 +1,7 @@
 // Tests of books: read, written, walked and refused.
 
+#![tactic(auto)]
+
 #[cfg(test)]
 mod tests {
     use book::record::{AutomatonBody, Head, ModelBody, Record, Word};

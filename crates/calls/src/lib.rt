@@ -1,4 +1,7 @@
 // A net's words and steps on the states of its stations, over any machine.
+
+#![tactic(auto)]
+
 ghost use Rattle.std.specs.Prelude.{◌≡◌, ◌≤◌, length};
 ghost use Rattle.semantics.specs.Calls.{bad_path, bad_paths, answer_call, step as step_call, word as word-call};
 ghost use Rattle.delivery.specs.Known.{learned};

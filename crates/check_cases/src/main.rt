@@ -1,5 +1,8 @@
 // Checks books that are written as text. A line is a book: its name, and its rows in hex. Zeros at the end of a row are left
 // out, but a row that ends with a dot is as long as it is written. The answer is a line: the name, and 'ok' or the refusal.
+
+#![tactic(auto)]
+
 use anyhow::anyhow;
 use book_check::check;
 use std::io::{BufRead, BufReader};

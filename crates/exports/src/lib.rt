@@ -1,5 +1,8 @@
 // The calls that a C program makes. include/translator.h declares them and says what the caller
 // owes.
+
+#![tactic(auto)]
+
 ghost use Rattle.std.specs.Prelude.{◌≡◌};
 ghost use Rattle.book_check.specs.Check.{check_of};
 ghost use Rattle.exports.specs.Told.{told_number, told_place};

@@ -1,4 +1,7 @@
 // Printing is faithful: the theorems that tie a printed automaton net to its model net.
+
+#![tactic(auto)]
+
 ghost use Rattle.faithful.specs.Theorems.{PrintingIsFaithful, PrintedIsLawful};
 ghost use Rattle.faithful.specs.Mixed.{MixedNetsRunAlike, MixedNetsAnswerAlike};
 

@@ -1,4 +1,7 @@
 // Gearing a whole machine, a factor for each station: definitions, and the theorem about them.
+
+#![tactic(auto)]
+
 ghost use Rattle.gearing.specs.Laws.{GearedMachinesAnswer};
 
 // A geared machine is sound, and answers by the machine below.

@@ -1,4 +1,7 @@
 // Rules that every record of a book keeps.
+
+#![tactic(auto)]
+
 ghost use Rattle.kept_rules.specs.Kept.{KeptWhereNoneIsFound};
 
 // There is no smallest record that breaks a rule exactly if every record keeps it.

@@ -1,4 +1,7 @@
 // Which model books are accepted.
+
+#![tactic(auto)]
+
 ghost use Rattle.lawful_models.specs.Accepted.{AcceptedModelsAreLawful};
 
 // A model book is accepted exactly if its bytes are well formed and its tree is lawful.

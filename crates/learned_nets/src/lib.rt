@@ -1,4 +1,7 @@
 // What a net can learn of a machine is enough: a theorem about the definitions.
+
+#![tactic(auto)]
+
 ghost use Rattle.learned_nets.specs.Meant.{NetsAnswerAsMeant};
 
 // Over any sound machine, blanks for unknown stances change no answer, no state and no telling.

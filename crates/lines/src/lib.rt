@@ -1,5 +1,7 @@
 // Events, refusals and tellings as lines of text, without the heap.
 
+#![tactic(auto)]
+
 mod draft;
 pub mod line;
 mod number;

@@ -1,5 +1,8 @@
 // The station machine: the one interface through which a net sees its stations, and gearing over
 // any machine.
+
+#![tactic(auto)]
+
 ghost use Rattle.std.specs.Prelude.{◌≡◌, length};
 ghost use Rattle.semantics.specs.Machine.{Meaning, Sound};
 ghost use Rattle.semantics.specs.Questions.{ask_station, ask_stance, ask_hearing};

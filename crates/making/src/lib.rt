@@ -1,6 +1,9 @@
 // What a net is made from: a machine that is geared to its net scale, and the states that its
 // stations open in, with the events that tell of them. Places count from 0: place i is station
 // i + 1.
+
+#![tactic(auto)]
+
 ghost use Rattle.std.specs.Prelude.{◌≡◌, ℕ, ◌+◌, ◌^◌, ◌<◌, ◌≤◌, ◌++◌, length, drop, Some, None, MatchResult};
 ghost use Rattle.book.specs.Refusals.{refused};
 ghost use Rattle.book.specs.declared.refusal.Fault.TheVariants.{Scale};

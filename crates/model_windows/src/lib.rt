@@ -1,4 +1,7 @@
 // The rules of a model book about the windows of its edges.
+
+#![tactic(auto)]
+
 ghost use Rattle.std.specs.Prelude.{◌≡◌, not, ◌&&◌, eqb};
 ghost use Rattle.semantics.specs.Times.{itself};
 ghost use Rattle.spans.specs.Hearings.{meet};

@@ -1,4 +1,7 @@
 // A net of stations over any machine.
+
+#![tactic(auto)]
+
 mod call;
 mod held;
 mod making;

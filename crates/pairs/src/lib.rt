@@ -1,5 +1,7 @@
 // Edges of a phase that take one word at one moment: each edge is read once, into a table, and the
 // pairs are compared there.
 
+#![tactic(auto)]
+
 pub mod shared;
 pub mod taker;

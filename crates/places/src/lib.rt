@@ -1,5 +1,7 @@
 // The places of a book's phases, or locations, in their stations.
 
+#![tactic(auto)]
+
 ghost use Rattle.places.specs.Standing.{PlacesStand};
 
 pub mod search;

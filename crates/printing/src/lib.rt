@@ -1,4 +1,7 @@
 // What is printed reads back.
+
+#![tactic(auto)]
+
 ghost use Rattle.printing.specs.ReadsBack.{PrintedFits, PrintedReadsBack};
 ghost use Rattle.printing.specs.Renumbered.{NumbersDoNotMatter};
 

@@ -1,5 +1,7 @@
 // The records of both kinds of book as rows of 32 bytes: decode and encode, read and write.
 
+#![tactic(auto)]
+
 // The bytes of a row, eight to a line.
 macro_rules! row {
     ($($($byte:expr),+);+) => {

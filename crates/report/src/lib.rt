@@ -1,4 +1,6 @@
 // What the program says of a book, as text.
 
+#![tactic(auto)]
+
 pub mod account;
 pub mod listing;

@@ -1,4 +1,7 @@
 // Scales: least common multiples with a limit, and times in ticks.
+
+#![tactic(auto)]
+
 pub mod meaning;
 pub mod multiple;
 pub mod scale;

@@ -1,5 +1,8 @@
 // The lines of a script: one call of a session to a line. What is accepted is in examples/README.md,
 // and is tested; the functions are proved to be safe and to end.
+
+#![tactic(auto)]
+
 use book::term::Path;
 use std::alloc::{AllocError, AllocFailed, Global};
 use std::str::FromStr;

@@ -1,4 +1,7 @@
 // What model nets and automaton nets mean: definitions, and the theorems about them.
+
+#![tactic(auto)]
+
 ghost use Rattle.semantics.specs.Membership.{Membership};
 ghost use Rattle.semantics.specs.Laws.{ScalesAreLeast, StanceNumbers, MeaningsAreSound, GearingKeepsSound};
 ghost use Rattle.semantics.specs.OneTime.{EqualFractionsAreOneTime};

@@ -1,5 +1,8 @@
 // Sessions that the gate plays: the script of each book, line by line, and the answers compared with
 // those of a second interpreter (tools/net.py).
+
+#![tactic(auto)]
+
 use sessions::Broken;
 use sessions::whole::play_book;
 use std::fs;

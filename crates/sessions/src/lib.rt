@@ -1,5 +1,8 @@
 // Sessions: a script of calls, played on a net, with every answer as lines of text. What is written
 // is tested; the functions are proved to be safe and to end.
+
+#![tactic(auto)]
+
 ghost use Rattle.std.specs.Prelude.{◌≤◌};
 
 pub mod whole;

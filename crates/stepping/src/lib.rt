@@ -1,4 +1,7 @@
 // Nets keep the rules: theorems about the definitions of nets and of runs. Each function carries one on its contract.
+
+#![tactic(auto)]
+
 ghost use Rattle.stepping.specs.AnyMachine.{ReachedAreKnown, MachineNetsStep};
 ghost use Rattle.stepping.specs.Makings.{MakingsDecline};
 ghost use Rattle.stepping.specs.Determined.{RunsAreDetermined};

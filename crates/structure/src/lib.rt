@@ -1,4 +1,7 @@
 // The structure of a book: its length, its head, the layout of its records, and their links.
+
+#![tactic(auto)]
+
 ghost use Rattle.std.specs.Prelude.{◌≡◌, ◌+◌, ◌*◌, length, is_some};
 ghost use Rattle.structure.specs.Examples.{ExamplesStand};
 ghost use Rattle.structure.specs.Faults.{told_records, wrong_length, wrong_head};

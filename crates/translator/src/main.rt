@@ -1,5 +1,8 @@
 // The station translator: takes books apart, judges them, gives an account, and plays scripts on
 // their nets.
+
+#![tactic(auto)]
+
 mod session;
 
 use book::bytes::byte_at;
