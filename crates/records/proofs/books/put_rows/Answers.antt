@@ -15,8 +15,8 @@ returns g c =
     sym (at_drop_all (put_rows g.B.Rows.encoded c.loop-i.out (c.loop-i.i + 1)) c.args.records.now c.loop-i.i c.loop-i-test.false)
     ∙ c.loop-i.invariant
 
-pub put-row-requires : goal.put-row-requires
-put-row-requires g c = record {
+pub put_row-requires : goal.put_row-requires
+put_row-requires g c = record {
   few = omega (arith, c.requires.few, c.loop-i-test.true);
   long = ap length c.encode.ensures ∙ g.met.B.Rows.long c.index-records-i.result;
   room = omega (arith, c.requires.room, c.loop-i.auto.out, c.loop-i-test.true);
