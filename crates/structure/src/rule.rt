@@ -18,7 +18,7 @@ pub trait Rule {
 // The smallest of the head and n records that breaks the rule.
 pub fn first_broken<L: Rule>(rule: &L, book: &[u8], n: u16) -> Option<u16>
     requires { n ≤ 2000 }
-    ensures { result ≡ first_of (broken rule.now book.now) n }
+    ensures { result ≡ first_of (L.broken rule.now book.now) n }
 {
     for i in 0..n + 1 {
         if rule.is_broken(book, i) {

@@ -4,8 +4,8 @@ use Rattle.structure.proofs.structure.Goals as goal
 
 pub returns-in-Model : goal.returns-in-Model
 returns-in-Model c =
-    told_by c.args.book.now _ _ _ _ Model _ c.has-wrong-length.ensures c.whole-book.ensures c.in-ok-refuse.ensures c.byte-at.ensures c.in-Some.ensures c.in-Model.is c.structure_by.ensures
+    told_by c.args.book.now _ _ _ _ Model _ c.has_wrong_length.ensures c.whole_book.ensures c.in_ok-refuse.ensures c.byte_at.ensures c.in-Some.ensures c.in-Model.is c.structure_by.ensures
 
 pub returns-in-Automaton : goal.returns-in-Automaton
 returns-in-Automaton c =
-    told_by c.args.book.now _ _ _ _ Automaton _ c.has-wrong-length.ensures c.whole-book.ensures c.in-ok-refuse.ensures c.byte-at.ensures c.in-Some.ensures c.in-Automaton.is c.structure-by-in-Automaton.ensures
+    told_by c.args.book.now _ _ _ _ Automaton _ c.has_wrong_length.ensures c.whole_book.ensures c.in_ok-refuse.ensures c.byte_at.ensures c.in-Some.ensures c.in-Automaton.is c.structure_by-in-Automaton.ensures

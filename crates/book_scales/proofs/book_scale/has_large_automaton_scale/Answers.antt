@@ -11,7 +11,7 @@ pub returns : goal.returns
 returns c =
     let b = c.args.book.now in
     let standing : ℕ → List ℕ = (λ s. (automaton_at b s).scale ∷ []) in
-    ap not (c.is-some.ensures
-    ∙ ap is_some (c.grow-along.ensures
-    ∙ grown_whole (flat_map standing (followed b c.two-at-first.result))
-    ∙ ap (λ i. limited (lcm_all 1 (flat_map standing (followed b i)))) c.two-at-first.ensures))
+    ap not (c.is_some.ensures
+    ∙ ap is_some (c.grow_along.ensures
+    ∙ grown_whole (flat_map standing (followed b c.two_at-first.result))
+    ∙ ap (λ i. limited (lcm_all 1 (flat_map standing (followed b i)))) c.two_at-first.ensures))

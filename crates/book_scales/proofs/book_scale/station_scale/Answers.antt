@@ -11,6 +11,6 @@ use Rattle.book_scales.proofs.book_scale.station_scale.Goals as goal
 pub returns : goal.returns
 returns c =
     let b = c.args.book.now in
-    c.grow-along.ensures
-    ∙ grown_whole (flat_map (phase_denominators b) (followed b c.two-at-first.result))
-    ∙ ap (λ i. limited (lcm_all 1 (flat_map (phase_denominators b) (followed b i)))) (c.two-at-first.ensures ∙ ap (λ l. two l 4) c.row-of.ensures)
+    c.grow_along.ensures
+    ∙ grown_whole (flat_map (phase_denominators b) (followed b c.two_at-first.result))
+    ∙ ap (λ i. limited (lcm_all 1 (flat_map (phase_denominators b) (followed b i)))) (c.two_at-first.ensures ∙ ap (λ l. two l 4) c.row_of.ensures)

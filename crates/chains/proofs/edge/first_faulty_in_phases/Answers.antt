@@ -11,5 +11,5 @@ pub returns : goal.returns
 returns g c =
     let b = c.args.book.now in
     let broken = g.T.PhaseRule.broken c.args.rule.now b in
-    found_along b (λ i s. along (λ j p. broken_edges b broken p) 0 (phases b s)) c.two-at.result (two b 6) _ c.two-at.ensures c.smallest-along.ensures
+    found_along b (λ i s. along (λ j p. broken_edges b broken p) 0 (phases b s)) c.two_at.result (two b 6) _ c.two_at.ensures c.smallest_along.ensures
     ∙ ap smallest (nested b broken)

@@ -14,6 +14,6 @@ returns c =
     let b = c.args.book.now in
     let p = c.args.p in
     let e = c.args.e in
-    c.any-in-chain.ensures
-    ∙ ap (λ h. some (λ f. not (eqb f e) && meet itself h (hearing_at b p f)) (followed b c.two-at.result)) c.hearing_at.ensures
-    ∙ ap (λ i. some (meets b p e) (followed b i)) (c.two-at.ensures ∙ ap (λ l. two l 4) c.row-of.ensures)
+    c.any_in_chain.ensures
+    ∙ ap (λ h. some (λ f. not (eqb f e) && meet itself h (hearing_at b p f)) (followed b c.two_at.result)) c.hearing_at.ensures
+    ∙ ap (λ i. some (meets b p e) (followed b i)) (c.two_at.ensures ∙ ap (λ l. two l 4) c.row_of.ensures)

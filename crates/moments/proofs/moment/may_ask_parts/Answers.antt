@@ -2,9 +2,9 @@ use Rattle.std.proofs.Common.{◌≡◌, ◌*◌, ◌/◌, ◌<◌, ◌≤◌, t
 use Rattle.std.proofs.lemmas.Bool.{le-leb, leb-true}
 use Rattle.moments.proofs.moment.may_ask_parts.Goals as goal
 
-pub returns-then-per-tick-ne0 : goal.returns-then-per-tick-ne0
-returns-then-per-tick-ne0 c =
-    let q = c.args.per-tick in
+pub returns-then-per_tick-ne0 : goal.returns-then-per_tick-ne0
+returns-then-per_tick-ne0 c =
+    let q = c.args.per_tick in
     let scale = c.args.scale in
     let some : 1 ≤ q = omega arith in
     let pos : 0 < scale = omega arith in

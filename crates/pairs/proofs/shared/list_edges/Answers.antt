@@ -11,11 +11,11 @@ returns-in-Ok g c =
     let b = c.args.book.now in
     let p = c.args.p in
     let count = c.in-Ok.count in
-    let first = c.two-at.result in
+    let first = c.two_at.result in
     let slots = c.args.list.now in
     let listed = walk_listed b first slots count c.in-Ok.ensures.answer in
     let room : short b slots ≡ false = walk_had_room b first slots count c.in-Ok.ensures.answer in
-    let here : first ≡ two (row b p) 4 = c.two-at.ensures ∙ ap (λ l. two l 4) c.row-of.ensures in
+    let here : first ≡ two (row b p) 4 = c.two_at.ensures ∙ ap (λ l. two l 4) c.row_of.ensures in
     let all : chain_of b first ≡ edges b p =
     ap (chain_of b) here
     ∙ sym (ap (λ t. cond t [] (chain_of b (two (row b p) 4))) (ap (λ n. ltb n (whole_records b)) (sym c.requires) ∙ room)) in

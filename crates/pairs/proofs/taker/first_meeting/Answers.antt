@@ -7,9 +7,9 @@ use Rattle.pairs.proofs.taker.first_meeting.Goals as goal
 
 pub loop-taker-preserved : goal.loop-taker-preserved
 loop-taker-preserved g c =
-    meeting_more g.T.Time.time c.args.takers.now c.loop-taker.taker-index c.taker-item.result c.meets-one.result
-    c.loop-taker.best c.if-broken.result c.least-of-best.result
-    c.loop-taker-test.true c.taker-item.is c.meets-one.ensures c.loop-taker.invariant c.if-broken.ensures c.least-of-best.ensures
+    meeting_more g.T.Time.time c.args.takers.now c.loop-taker.taker-index c.taker-item.result c.meets_one.result
+    c.loop-taker.best c.if_broken.result c.least_of-best.result
+    c.loop-taker-test.true c.taker-item.is c.meets_one.ensures c.loop-taker.invariant c.if_broken.ensures c.least_of-best.ensures
 
 pub returns : goal.returns
 returns g c =

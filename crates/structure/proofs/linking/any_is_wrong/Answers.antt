@@ -4,11 +4,11 @@ use Rattle.structure.specs.Faults.{some_link, wrong_link}
 use Rattle.structure.proofs.Counts.{some_more}
 use Rattle.structure.proofs.linking.any_is_wrong.Goals as goal
 
-pub returns-then-is-wrong : goal.returns-then-is-wrong
-returns-then-is-wrong c = sym (sym c.loop-link.invariant ∙ some_more _ _ _ c.loop-link-test.true true (sym c.if-is-wrong.ensures))
+pub returns-then-is_wrong : goal.returns-then-is_wrong
+returns-then-is_wrong c = sym (sym c.loop-link.invariant ∙ some_more _ _ _ c.loop-link-test.true true (sym c.if-is_wrong.ensures))
 
 pub loop-link-preserved : goal.loop-link-preserved
-loop-link-preserved c = sym (some_more _ _ _ c.loop-link-test.true false (sym c.if-is-wrong.ensures)) ∙ c.loop-link.invariant
+loop-link-preserved c = sym (some_more _ _ _ c.loop-link-test.true false (sym c.if-is_wrong.ensures)) ∙ c.loop-link.invariant
 
 pub returns : goal.returns
 returns c =

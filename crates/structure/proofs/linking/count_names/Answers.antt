@@ -8,10 +8,10 @@ loop-i-init g c = tallied_none _ _
 pub loop-i-preserved : goal.loop-i-preserved
 loop-i-preserved g c =
     let three : length c.links_of.result ≡ 3 = search rules in
-    tallied_more _ _ _ _ _ _ c.loop-i.invariant c.loop-i-test.true three c.links_of.ensures c.count-on.auto.counts c.count-on.ensures
+    tallied_more _ _ _ _ _ _ c.loop-i.invariant c.loop-i-test.true three c.links_of.ensures c.count_on.auto.counts c.count_on.ensures
 
-pub count-on-requires : goal.count-on-requires
-count-on-requires g c =
+pub count_on-requires : goal.count_on-requires
+count_on-requires g c =
     let three : length c.links_of.result ≡ 3 = search rules in
     λ j. omega (arith, c.loop-i.invariant.bound j)
 

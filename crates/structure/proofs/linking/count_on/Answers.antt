@@ -6,8 +6,8 @@ use Rattle.structure.proofs.linking.count_on.Goals.{then-record-counts, else-rec
 pub loop-link-init : goal.loop-link-init
 loop-link-init c = counting_none _ _
 
-pub overflow-add-counts : goal.overflow-add-counts
-overflow-add-counts c = omega (arith, c.loop-link.invariant.bound c.from-record.result, c.requires c.from-record.result, c.loop-link-test.true)
+pub overflow_add-counts : goal.overflow_add-counts
+overflow_add-counts c = omega (arith, c.loop-link.invariant.bound c.from-record.result, c.requires c.from-record.result, c.loop-link-test.true)
 
 pub loop-link-preserved : goal.loop-link-preserved
 loop-link-preserved c =

@@ -18,5 +18,5 @@ returns-in-Ok g c =
     let room : short b slots ≡ false = walk_had_room b first slots count c.in-Ok.ensures.answer in
     let all : take (count - 0) c.walk.new.list ≡ chain_of b first =
     ap (λ n. take n c.walk.new.list) z ∙ ap (take count) c.in-Ok.ensures.slots ∙ listed.1 in
-    c.smallest-in.ensures
+    c.smallest_in.ensures
     ∙ ap (λ l. smallest (along found 0 l)) (all ∙ sym (ap (λ t. cond t [] (chain_of b first)) room))

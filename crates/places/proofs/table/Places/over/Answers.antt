@@ -14,10 +14,10 @@ returns g c =
       | in-Ok w ↦
           let told = w.in-Ok.ensures in
           let done = walk_followed b first list w.in-Ok.count told.answer told.slots in
-          front_followed b first 16 c.min.result list w.in-Ok.count done (c.min.ensures ∙ ap (λ n. min n 16) w.count_is)
+          front_followed b first 16 c.min.result list w.in-Ok.count done (c.min.ensures ∙ ap (λ n. min n 16) w.count-is)
       | in-Err w ↦
           let none = walk_refused b first _ w.in-Err.ensures.answer in
-          let z : c.min.result - 0 ≡ 0 = omega (arith, w.count_is, c.min.ensures) in
+          let z : c.min.result - 0 ≡ 0 = omega (arith, w.count-is, c.min.ensures) in
           ap (λ n. take n list) z ∙ ap (take 16) none
     ] in
     c.put-stations.ensures ∙ ap (places_along b) (front ∙ ap (λ i. take 16 (followed b i)) c.two-at.ensures)
