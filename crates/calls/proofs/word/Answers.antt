@@ -16,7 +16,7 @@ returns-in-Some g c =
     let σ = c.args.states.now in
     let as_many : length σ ≡ length (learned ms) = c.requires.there ∙ sym (length-map ms only_known) in
     let eq = word_at_paths (learned ms) c.args.order c.args.parts ps σ c.args.total c.args.port c.args.value (length es) c.in-Some.place (c.in-Some.ensures ∙ ap (λ n. bad_paths n ps) as_many) in
-    record { answer = ap (λ o. counted o.answer) eq; states-left = ap (λ o. o.state) eq; slots = ap (λ o. written o.answer es) eq }
+    record { answer = ap (λ o. counted o.answer) eq; states_left = ap (λ o. o.state) eq; slots = ap (λ o. written o.answer es) eq }
 
 pub returns-then-events-paths : goal.returns-then-events-paths
 returns-then-events-paths g c =
@@ -25,44 +25,44 @@ returns-then-events-paths g c =
     let es = c.args.events.now in
     let σ = c.args.states.now in
     let as_many : length σ ≡ length (learned ms) = c.requires.there ∙ sym (length-map ms only_known) in
-    let eq = word_at_room (learned ms) c.args.order c.args.parts ps σ c.args.total c.args.port c.args.value (length es) (sym c.in-default.is ∙ c.first-bad-path.ensures ∙ ap (λ n. bad_paths n ps) as_many) c.if-events-paths.true in
-    record { answer = ap (λ o. counted o.answer) eq; states-left = ap (λ o. o.state) eq; slots = ap (λ o. written o.answer es) eq }
+    let eq = word_at_room (learned ms) c.args.order c.args.parts ps σ c.args.total c.args.port c.args.value (length es) (sym c.in_default.is ∙ c.first_bad_path.ensures ∙ ap (λ n. bad_paths n ps) as_many) c.if-events-paths.true in
+    record { answer = ap (λ o. counted o.answer) eq; states_left = ap (λ o. o.state) eq; slots = ap (λ o. written o.answer es) eq }
 
-pub overflow-add-result : goal.overflow-add-result
-overflow-add-result g c =
+pub overflow_add-result : goal.overflow_add-result
+overflow_add-result g c =
     let few = (g.M.Machine.sound c.args.machine.now).few_stations in
-    let under : c.in-Some-lowest-place.place < length c.args.states.now =
-    busy_under (learned (g.M.Machine.meaning c.args.machine.now)) c.args.states.now _ _ c.in-Some-lowest-place.ensures
+    let under : c.in-Some-lowest_place.place < length c.args.states.now =
+    busy_under (learned (g.M.Machine.meaning c.args.machine.now)) c.args.states.now _ _ c.in-Some-lowest_place.ensures
     in
     omega (arith, c.requires.there)
 
-pub returns-in-Some-lowest-place : goal.returns-in-Some-lowest-place
-returns-in-Some-lowest-place g c =
+pub returns-in-Some-lowest_place : goal.returns-in-Some-lowest_place
+returns-in-Some-lowest_place g c =
     let ms = g.M.Machine.meaning c.args.machine.now in
     let ps = c.args.paths.now in
     let es = c.args.events.now in
     let σ = c.args.states.now in
     let as_many : length σ ≡ length (learned ms) = c.requires.there ∙ sym (length-map ms only_known) in
-    let eq = word_at_busy (learned ms) c.args.order c.args.parts ps σ c.args.total c.args.port c.args.value (length es) c.in-Some-lowest-place.place _ (omega arith) (sym c.in-default.is ∙ c.first-bad-path.ensures ∙ ap (λ n. bad_paths n ps) as_many) c.if-events-paths.false (c.in-Some-lowest-place.ensures ∙ ap (lowest (busy_at (learned ms) σ) 0) as_many) in
-    record { answer = ap (λ o. counted o.answer) eq; states-left = ap (λ o. o.state) eq; slots = ap (λ o. written o.answer es) eq }
+    let eq = word_at_busy (learned ms) c.args.order c.args.parts ps σ c.args.total c.args.port c.args.value (length es) c.in-Some-lowest_place.place _ (omega arith) (sym c.in_default.is ∙ c.first_bad_path.ensures ∙ ap (λ n. bad_paths n ps) as_many) c.if-events-paths.false (c.in-Some-lowest_place.ensures ∙ ap (lowest (busy_at (learned ms) σ) 0) as_many) in
+    record { answer = ap (λ o. counted o.answer) eq; states_left = ap (λ o. o.state) eq; slots = ap (λ o. written o.answer es) eq }
 
-pub overflow-add-result-in-Some-due-before-words : goal.overflow-add-result-in-Some-due-before-words
-overflow-add-result-in-Some-due-before-words g c =
+pub overflow_add-result-in-Some-due_before_words : goal.overflow_add-result-in-Some-due_before_words
+overflow_add-result-in-Some-due_before_words g c =
     let few = (g.M.Machine.sound c.args.machine.now).few_stations in
-    let under : c.in-Some-due-before-words.place < length c.args.states.now =
-    due_under (learned (g.M.Machine.meaning c.args.machine.now)) c.args.order c.args.parts c.args.states.now _ _ c.in-Some-due-before-words.ensures
+    let under : c.in-Some-due_before_words.place < length c.args.states.now =
+    due_under (learned (g.M.Machine.meaning c.args.machine.now)) c.args.order c.args.parts c.args.states.now _ _ c.in-Some-due_before_words.ensures
     in
     omega (arith, c.requires.there)
 
-pub returns-in-Some-due-before-words : goal.returns-in-Some-due-before-words
-returns-in-Some-due-before-words g c =
+pub returns-in-Some-due_before_words : goal.returns-in-Some-due_before_words
+returns-in-Some-due_before_words g c =
     let ms = g.M.Machine.meaning c.args.machine.now in
     let ps = c.args.paths.now in
     let es = c.args.events.now in
     let σ = c.args.states.now in
     let as_many : length σ ≡ length (learned ms) = c.requires.there ∙ sym (length-map ms only_known) in
-    let eq = word_at_due (learned ms) c.args.order c.args.parts ps σ c.args.total c.args.port c.args.value (length es) c.in-Some-due-before-words.place _ (omega arith) (sym c.in-default.is ∙ c.first-bad-path.ensures ∙ ap (λ n. bad_paths n ps) as_many) c.if-events-paths.false (sym c.in-default-lowest-place.is ∙ c.lowest-place.ensures ∙ ap (lowest (busy_at (learned ms) σ) 0) as_many) (c.in-Some-due-before-words.ensures ∙ ap (due_among (learned ms) c.args.order c.args.parts σ) as_many) in
-    record { answer = ap (λ o. counted o.answer) eq; states-left = ap (λ o. o.state) eq; slots = ap (λ o. written o.answer es) eq }
+    let eq = word_at_due (learned ms) c.args.order c.args.parts ps σ c.args.total c.args.port c.args.value (length es) c.in-Some-due_before_words.place _ (omega arith) (sym c.in_default.is ∙ c.first_bad_path.ensures ∙ ap (λ n. bad_paths n ps) as_many) c.if-events-paths.false (sym c.in_default-lowest_place.is ∙ c.lowest_place.ensures ∙ ap (lowest (busy_at (learned ms) σ) 0) as_many) (c.in-Some-due_before_words.ensures ∙ ap (due_among (learned ms) c.args.order c.args.parts σ) as_many) in
+    record { answer = ap (λ o. counted o.answer) eq; states_left = ap (λ o. o.state) eq; slots = ap (λ o. written o.answer es) eq }
 
 pub returns : goal.returns
 returns g c =
@@ -71,10 +71,10 @@ returns g c =
     let es = c.args.events.now in
     let σ = c.args.states.now in
     let as_many : length σ ≡ length (learned ms) = c.requires.there ∙ sym (length-map ms only_known) in
-    let eq = word_goes (learned ms) c.args.order c.args.parts ps σ c.args.total c.args.port c.args.value (length es) (sym c.in-default.is ∙ c.first-bad-path.ensures ∙ ap (λ n. bad_paths n ps) as_many) c.if-events-paths.false (sym c.in-default-lowest-place.is ∙ c.lowest-place.ensures ∙ ap (lowest (busy_at (learned ms) σ) 0) as_many) (sym c.in-default-due-before-words.is ∙ c.due_before_words.ensures ∙ ap (due_among (learned ms) c.args.order c.args.parts σ) as_many) in
+    let eq = word_goes (learned ms) c.args.order c.args.parts ps σ c.args.total c.args.port c.args.value (length es) (sym c.in_default.is ∙ c.first_bad_path.ensures ∙ ap (λ n. bad_paths n ps) as_many) c.if-events-paths.false (sym c.in_default-lowest_place.is ∙ c.lowest_place.ensures ∙ ap (lowest (busy_at (learned ms) σ) 0) as_many) (sym c.in_default-due_before_words.is ∙ c.due_before_words.ensures ∙ ap (due_among (learned ms) c.args.order c.args.parts σ) as_many) in
     let h : c.deliver.result ≤ length c.deliver.new.events = omega (arith, c.deliver.ensures.high, c.deliver.auto.events, c.if-events-paths.false) in
     record {
       answer = ap Ok (told_count _ es _ _ _ _ h c.deliver.ensures) ∙ ap (λ o. counted o.answer) eq;
-      states-left = ap (λ τ. state_of τ c.args.total) c.deliver.ensures.left ∙ ap (λ o. o.state) eq;
+      states_left = ap (λ τ. state_of τ c.args.total) c.deliver.ensures.left ∙ ap (λ o. o.state) eq;
       slots = told_written _ es _ _ _ _ h c.deliver.ensures ∙ ap (λ o. written o.answer es) eq;
     }

@@ -16,8 +16,8 @@ loop-i-preserved g c =
     let many : length ds ≡ length ms = length-map ms (λ m. m.scale) in
     let at : get_or ds i 0 ≡ (meaning_at ms i).scale = get_or-map (λ m. m.scale) ms i blank_meaning 0 l in
     c.grow-scale.ensures
-    ∙ ap (λ s. grown s c.scale-at.result) c.loop-i.invariant
-    ∙ ap (grown (limited (lcm_all 1 (take i ds)))) (c.scale-at.ensures.value ∙ sym at)
+    ∙ ap (λ s. grown s c.scale_at.result) c.loop-i.invariant
+    ∙ ap (grown (limited (lcm_all 1 (take i ds)))) (c.scale_at.ensures.value ∙ sym at)
     ∙ grown_one (lcm_all 1 (take i ds)) (get_or ds i 0)
     ∙ ap limited (sym (ap (lcm_all 1) (take_more ds i 0 (omega arith)) ∙ lcm_all_push 1 (take i ds) (get_or ds i 0)))
 

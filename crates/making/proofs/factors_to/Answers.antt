@@ -10,5 +10,5 @@ loop-i-preserved g c =
       length-set c.loop-i.factors i _ ∙ c.loop-i.invariant.0,
       below_more _ _
           (λ k h. let ne : k ≢ i = omega arith in get_or-set_other c.loop-i.factors i k _ 0 ne ∙ c.loop-i.invariant.1 k h)
-          (get_or-set_same c.loop-i.factors i _ 0 l ∙ ap (λ s. c.args.scale / s) c.scale-at.ensures.value),
+          (get_or-set_same c.loop-i.factors i _ 0 l ∙ ap (λ s. c.args.scale / s) c.scale_at.ensures.value),
     )

@@ -7,8 +7,8 @@ loop-i-preserved g c =
     let ms = g.M.Machine.meaning c.args.machine.now in
     telling_more ms c.args.events.now c.loop-i.events c.loop-i.i c.loop-i.invariant _ _ (omega (arith, c.stations-stations.ensures, c.loop-i-test.true))
     (omega (arith, c.requires, c.stations-stations.ensures, c.loop-i-test.true, c.loop-i.auto.events)) (omega arith)
-    (opening_told ms (g.M.Machine.sound c.args.machine.now) c.loop-i.i c.opening-at-stance.result c.stance_of.result
-    (omega (arith, c.stations-stations.ensures, c.loop-i-test.true)) c.opening-at-stance.ensures c.stance_of.ensures)
+    (opening_told ms (g.M.Machine.sound c.args.machine.now) c.loop-i.i c.opening_at-stance.result c.stance_of.result
+    (omega (arith, c.stations-stations.ensures, c.loop-i-test.true)) c.opening_at-stance.ensures c.stance_of.ensures)
 
 pub returns : goal.returns
 returns g c =

@@ -22,7 +22,7 @@ returns-in-Some g c =
     let z : c.args.path.hearer ≡ suc (c.args.path.hearer - 1) = omega arith in
     told_same _ _ c.args.events.now _ _ c.args.n 2 _
     (heard_event ms c.args.states.now c.args.path.hearer_port c.args.value (c.args.path.hearer - 1) _ c.in-Some.stance _ z
-    (ap (λ x. x.phase) c.stance-of-phase.ensures)
+    (ap (λ x. x.phase) c.stance_of-phase.ensures)
     ∙ heard_at ms c.args.parts c.args.states.now c.args.path.hearer c.args.path.hearer_port c.args.value (c.args.path.hearer - 1) z
     (Some c.in-Some.stance) c.in-Some.ensures)
     (told_two c.args.events.now _ c.args.n _ _ (omega arith))

@@ -19,5 +19,5 @@ returns c =
     let read = subst (λ l. ParsesUnsigned 64 10 l c.parse.result) same c.parse.ensures.value.0 in
     rw c.ok.ensures.value (reads c.args.digits.now c.parse.result read c.requires one)
 
-pub returns-in-default : goal.returns-in-default
-returns-in-default c = absurd (c.in-default.ensures.cases.0 (digits_utf8 c.args.digits.now c.requires))
+pub returns-in_default : goal.returns-in_default
+returns-in_default c = absurd (c.in_default.ensures.cases.0 (digits_utf8 c.args.digits.now c.requires))

@@ -7,7 +7,7 @@ pub returns-then-station-gt255 : goal.returns-then-station-gt255
 returns-then-station-gt255 c =
     no_event c.args.kind c.args.bytes.now
     (λ s p v hs hp hv are.
-    let n = c.in-ok-station in
+    let n = c.in_ok-station in
     let e = same_numbers c.args.bytes.now (n.station ∷ n.port ∷ n.value ∷ []) (s ∷ p ∷ v ∷ []) n.ensures are in
     let a : n.station ≡ s = cc in
     let b : n.port ≡ p = cc in

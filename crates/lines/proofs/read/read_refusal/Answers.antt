@@ -8,17 +8,17 @@ pub returns-then-number-gt255 : goal.returns-then-number-gt255
 returns-then-number-gt255 c =
     no_refusal c.args.bytes.now
     (λ f p hf are.
-    let n = c.in-ok-number in
+    let n = c.in_ok-number in
     let e = same_numbers c.args.bytes.now (n.number ∷ n.place ∷ []) (fault_number f ∷ p ∷ []) n.ensures are in
     let a : n.number ≡ fault_number f = cc in
     omega arith)
 
-pub returns-in-err-fault : goal.returns-in-err-fault
-returns-in-err-fault c =
-    rw c.from-residual-in-err-fault.ensures
+pub returns-in_err-fault : goal.returns-in_err-fault
+returns-in_err-fault c =
+    rw c.from_residual-in_err-fault.ensures
     (no_refusal c.args.bytes.now
     (λ f p hf are.
-    let n = c.in-ok-number in
+    let n = c.in_ok-number in
     let e = same_numbers c.args.bytes.now (n.number ∷ n.place ∷ []) (fault_number f ∷ p ∷ []) n.ensures are in
     let a : n.number ≡ fault_number f = cc in
-    c.in-err-fault.ensures f (sym a)))
+    c.in_err-fault.ensures f (sym a)))

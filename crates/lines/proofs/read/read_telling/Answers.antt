@@ -7,7 +7,7 @@ pub returns-then-phase-gt65535 : goal.returns-then-phase-gt65535
 returns-then-phase-gt65535 c =
     no_telling c.args.bytes.now
     (λ p s t hp hs are.
-    let n = c.in-ok-phase in
+    let n = c.in_ok-phase in
     let e = same_numbers c.args.bytes.now (n.phase ∷ n.sent ∷ n.elapsed ∷ []) (p ∷ s ∷ t ∷ []) n.ensures are in
     let a : n.phase ≡ p = cc in
     let b : n.sent ≡ s = cc in

@@ -9,8 +9,8 @@ push-requires-in-loop-number c =
     let r = ahead_room (marked c.args.mark c.args.numbers.now) c.args.numbers.now l.draft l.number-index l.invariant (omega arith) in
     record { room = omega (arith, c.requires.room) }
 
-pub push-number-requires : goal.push-number-requires
-push-number-requires c =
+pub push_number-requires : goal.push_number-requires
+push_number-requires c =
     let l = c.loop-number in
     let r = ahead_room (marked c.args.mark c.args.numbers.now) c.args.numbers.now l.draft l.number-index l.invariant (omega arith) in
     record { room = omega (arith, c.requires.room) }
@@ -21,8 +21,8 @@ loop-number-init c = ahead_none c.args.mark c.args.numbers.now _ (c.push.ensures
 pub loop-number-preserved : goal.loop-number-preserved
 loop-number-preserved c =
     let l = c.loop-number in
-    ahead_more (marked c.args.mark c.args.numbers.now) c.args.numbers.now l.draft l.number-index l.invariant (omega arith) c.push-number.new.self
-    (c.push-number.ensures.text ∙ ap (λ t. t ++ decimal (get_or c.args.numbers.now l.number-index 0)) c.push-in-loop-number.ensures.text) (omega arith)
+    ahead_more (marked c.args.mark c.args.numbers.now) c.args.numbers.now l.draft l.number-index l.invariant (omega arith) c.push_number.new.self
+    (c.push_number.ensures.text ∙ ap (λ t. t ++ decimal (get_or c.args.numbers.now l.number-index 0)) c.push-in-loop-number.ensures.text) (omega arith)
 
 pub push-requires-2 : goal.push-requires-2
 push-requires-2 c =
