@@ -37,7 +37,7 @@ pub(crate) fn scales_of(book: &[u8], places: &Places) -> [u32; 16]
     ensures { (i : ℕ) → i < 16 → i < places.now.stations → slice_index result i ≡ fitting_scale book.now (station_in places.now i) }
 {
     let mut scales = [0; 16];
-    for i in 1..places.stations().min(16) {
+    for i in 0..places.stations().min(16) {
         scales[i] = station_scale(book, places.station_at(i)).unwrap_or(0);
     }
     scales

@@ -17,7 +17,7 @@ returns-in-Some g c =
     let ms = g.M.Machine.meaning c.args.machine in
     let ps = c.args.paths.now in
     let es = c.args.events.now in
-    let made = c.in-ok-machine.ensures in
+    let made = c.in_ok-machine.ensures in
     let many = as_many ms _ made.2 in
     let eq =
     make_at_paths ms ps c.args.order c.args.parts (length es) made.0 c.in-Some.place
@@ -30,11 +30,11 @@ returns-then-events-stations g c =
     let ms = g.M.Machine.meaning c.args.machine in
     let ps = c.args.paths.now in
     let es = c.args.events.now in
-    let made = c.in-ok-machine.ensures in
+    let made = c.in_ok-machine.ensures in
     let many = as_many ms _ made.2 in
     let eq =
     make_at_room ms ps c.args.order c.args.parts (length es) made.0
-    (sym c.in-default.is ∙ c.first-bad-path.ensures ∙ ap (λ n. bad_paths n ps) (c.stations-stations.ensures ∙ many))
+    (sym c.in_default.is ∙ c.first_bad_path.ensures ∙ ap (λ n. bad_paths n ps) (c.stations-stations.ensures ∙ many))
     (omega (arith, c.stations-stations.ensures, c.if-events-stations.true))
     in
     record { answer = ap counted eq; slots = ap (λ a. written a es) eq; net = tt }
@@ -44,22 +44,22 @@ returns-then-parts-eq0 g c =
     let ms = g.M.Machine.meaning c.args.machine in
     let ps = c.args.paths.now in
     let es = c.args.events.now in
-    let made = c.in-ok-machine.ensures in
+    let made = c.in_ok-machine.ensures in
     let many = as_many ms _ made.2 in
     let eq =
     make_at_parts ms ps c.args.order c.args.parts (length es) made.0
-    (sym c.in-default.is ∙ c.first-bad-path.ensures ∙ ap (λ n. bad_paths n ps) (c.stations-stations.ensures ∙ many))
+    (sym c.in_default.is ∙ c.first_bad_path.ensures ∙ ap (λ n. bad_paths n ps) (c.stations-stations.ensures ∙ many))
     (omega (arith, c.stations-stations.ensures, c.if-events-stations.false))
     (wrong_parts c.args.parts (⊎_elim (λ z. inl z) (λ w. inr w.1) c.then-parts-eq0.either))
     in
     record { answer = ap counted eq; slots = ap (λ a. written a es) eq; net = tt }
 
-pub invariant-of-result : goal.invariant-of-result
-invariant-of-result g c =
-    let x = c.in-ok-machine.machine in
+pub invariant_of-result : goal.invariant_of-result
+invariant_of-result g c =
+    let x = c.in_ok-machine.machine in
     let finer = geared_by (g.M.Machine.meaning x.below) x.factors in
     let few = (geared_sound (g.M.Machine.meaning x.below) x.factors (g.M.Machine.sound x.below)).few_stations in
-    let is = c.opening-states-table.ensures in (
+    let is = c.opening_states-table.ensures in (
       ap length is ∙ table_long finer few,
       (
         omega (arith, c.if-parts-eq0.false),
@@ -76,23 +76,23 @@ invariant-of-result g c =
 pub returns : goal.returns
 returns g c =
     let ms = g.M.Machine.meaning c.args.machine in
-    let x = c.in-ok-machine.machine in
+    let x = c.in_ok-machine.machine in
     let ps = c.args.paths.now in
     let es = c.args.events.now in
-    let made = c.in-ok-machine.ensures in
+    let made = c.in_ok-machine.ensures in
     let many = as_many ms _ made.2 in
     let eq =
     make_goes ms ps c.args.order c.args.parts (length es) made.0
-    (sym c.in-default.is ∙ c.first-bad-path.ensures ∙ ap (λ n. bad_paths n ps) (c.stations-stations.ensures ∙ many))
+    (sym c.in_default.is ∙ c.first_bad_path.ensures ∙ ap (λ n. bad_paths n ps) (c.stations-stations.ensures ∙ many))
     (omega (arith, c.stations-stations.ensures, c.if-events-stations.false))
     (right_parts c.args.parts (omega (arith, c.if-parts-eq0.false)) c.if-parts-gt1000.false)
     in
     record {
       answer = ap Ok (length-map (geared_by (g.M.Machine.meaning x.below) x.factors) only_known ∙ many ∙ sym (length_created 1 ms)) ∙ ap counted eq;
-      slots = c.tell-openings.ensures ∙ created_written ms _ made.2 es ∙ ap (λ a. written a es) eq;
+      slots = c.tell_openings.ensures ∙ created_written ms _ made.2 es ∙ ap (λ a. written a es) eq;
       net = record {
         over = made.1;
         net = ap (λ y. slots.net_of (learned y) c.args.order c.args.parts) made.2;
-        state = ap (λ σ. state_of σ 0) (opened_front ms _ made.2 c.opening-states-table.result c.opening-states-table.ensures);
+        state = ap (λ σ. state_of σ 0) (opened_front ms _ made.2 c.opening_states-table.result c.opening_states-table.ensures);
       };
     }

@@ -4,8 +4,8 @@ use Rattle.net.specs.Nets.{later}
 use Rattle.net.proofs.Advance.{over_read, over_more, over_all}
 use Rattle.net.proofs.table.advance.Goals as goal
 
-pub overflow-add-table : goal.overflow-add-table
-overflow-add-table c =
+pub overflow_add-table : goal.overflow_add-table
+overflow_add-table c =
     let l : c.loop-i.i < length c.args.table.now = search rules in
     let e : state_at c.loop-i.table c.loop-i.i ≡ state_at c.args.table.now c.loop-i.i =
     ap (λ t. state_at t c.loop-i.i) c.loop-i.invariant ∙ over_read (later c.args.more) c.args.table.now c.loop-i.i (in_stance 0 0) l

@@ -2,5 +2,9 @@ use Rattle.book.specs.declared.term.BookKind.TheVariants.{Automaton}
 use Rattle.accepted.proofs.Accepted.{kind_accepts}
 use Rattle.automaton.proofs.automata.Automata.over.Goals as goal
 
-pub invariant-of-result : goal.invariant-of-result
-invariant-of-result c = (λ i. (c.type-inv.book i).fits, (kind_accepts c.args.book.now Automaton c.requires, (c.over-places.ensures, tt)))
+pub invariant_of-result : goal.invariant_of-result
+invariant_of-result c = record {
+  bytes = λ i. (c.type_inv.book i).fits;
+  accepted = kind_accepts c.args.book.now Automaton c.requires;
+  placed = c.over-places.ensures;
+}

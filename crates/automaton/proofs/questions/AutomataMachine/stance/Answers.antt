@@ -10,29 +10,29 @@ use Rattle.automaton.proofs.questions.AutomataMachine.stance.Goals as goal
 abbrev info : Location → Option Move → StanceInfo
 info l m = record { phase = l.phase; sent = l.sent; busy = l.committed; lifetime = l.bound; next_move = m }
 
-pub returns-in-err-place : goal.returns-in-err-place
-returns-in-err-place c =
+pub returns-in_err-place : goal.returns-in_err-place
+returns-in_err-place c =
     let self = c.args.self.now in
-    c.from-residual.ensures
+    c.from_residual.ensures
     ∙ unknown_stance _ self.places.stations c.args.station (stations_told self.book.now self.bytes self.accepted self.places self.placed)
-    c.in-err-place.ensures c.args.stance told
+    c.in_err-place.ensures c.args.stance told
 
-pub returns-in-err-k : goal.returns-in-err-k
-returns-in-err-k c =
+pub returns-in_err-k : goal.returns-in_err-k
+returns-in_err-k c =
     let self = c.args.self.now in
-    c.from-residual-in-err-k.ensures
-    ∙ unknown_told self.book.now self.bytes self.accepted self.places self.placed c.args.station c.in-ok-place.place c.in-ok-place.ensures
-    c.args.stance c.in-err-k.ensures.value told
+    c.from_residual-in_err-k.ensures
+    ∙ unknown_told self.book.now self.bytes self.accepted self.places self.placed c.args.station c.in_ok-place.place c.in_ok-place.ensures
+    c.args.stance c.in_err-k.ensures.value told
 
-pub next-move-requires : goal.next-move-requires
-next-move-requires c =
+pub next_move-requires : goal.next_move-requires
+next_move-requires c =
     let self = c.args.self.now in
-    location_of self.book.now self.bytes self.accepted self.places self.placed c.args.station c.in-ok-place.place c.in-ok-place.ensures
-    c.args.stance c.in-ok-k.k c.in-ok-k.ensures.value
+    location_of self.book.now self.bytes self.accepted self.places self.placed c.args.station c.in_ok-place.place c.in_ok-place.ensures
+    c.args.stance c.in_ok-k.k c.in_ok-k.ensures.value
 
 pub returns : goal.returns
 returns c =
     let self = c.args.self.now in
-    ap Some (ap₂ info c.location-at-location.ensures c.next-move.ensures)
-    ∙ stance_told self.book.now self.bytes self.accepted self.places self.placed c.args.station c.in-ok-place.place c.in-ok-place.ensures
-    c.args.stance c.in-ok-k.k c.in-ok-k.ensures.value told
+    ap Some (ap₂ info c.location_at-location.ensures c.next_move.ensures)
+    ∙ stance_told self.book.now self.bytes self.accepted self.places self.placed c.args.station c.in_ok-place.place c.in_ok-place.ensures
+    c.args.stance c.in_ok-k.k c.in_ok-k.ensures.value told

@@ -6,19 +6,19 @@ use Rattle.places.specs.Tables.{place_of}
 use Rattle.model.proofs.Phases.{heard_none, heard_some}
 use Rattle.model.proofs.model.Model.heard.Goals as goal
 
-pub returns-in-err-edge : goal.returns-in-err-edge
-returns-in-err-edge c =
+pub returns-in_err-edge : goal.returns-in_err-edge
+returns-in_err-edge c =
     let self = c.args.self.now in
-    c.from-residual.ensures
+    c.from_residual.ensures
     ∙ heard_none self.book.now self.bytes self.accepted self.places self.placed c.args.station c.args.k c.requires.phase
-    c.order_in.result c.lifetime_at.result c.phase-at-first.result c.args.word.port c.args.word.value (time_of c.args.moment)
-    c.order_in.ensures c.lifetime_at.ensures c.phase-at-first.ensures c.in-err-edge.ensures
+    c.order_in.result c.lifetime_at.result c.phase_at-first.result c.args.word.port c.args.word.value (time_of c.args.moment)
+    c.order_in.ensures c.lifetime_at.ensures c.phase_at-first.ensures c.in_err-edge.ensures
 
 pub returns : goal.returns
 returns c =
     let self = c.args.self.now in
-    let place = c.place-of.ensures ∙ ap (λ (x : Edge). place_of self.places x.goal) c.edge-at.ensures in
-    let n = c.quiet-number.ensures ∙ ap (λ x. stance_number x 0) place in
+    let place = c.place_of.ensures ∙ ap (λ (x : Edge). place_of self.places x.goal) c.edge_at.ensures in
+    let n = c.quiet_number.ensures ∙ ap (λ x. stance_number x 0) place in
     heard_some self.book.now self.bytes self.accepted self.places self.placed c.args.station c.args.k c.requires.phase
-    c.order_in.result c.lifetime_at.result c.phase-at-first.result c.args.word.port c.args.word.value (time_of c.args.moment)
-    c.order_in.ensures c.lifetime_at.ensures c.phase-at-first.ensures c.in-ok-edge.edge c.quiet-number.result c.in-ok-edge.ensures n
+    c.order_in.result c.lifetime_at.result c.phase_at-first.result c.args.word.port c.args.word.value (time_of c.args.moment)
+    c.order_in.ensures c.lifetime_at.ensures c.phase_at-first.ensures c.in_ok-edge.edge c.quiet_number.result c.in_ok-edge.ensures n

@@ -11,6 +11,6 @@ returns c =
     let self = c.args.self.now in
     let b = self.book.now in
     let scale = get_or self.scales c.args.station 0 in
-    let lasts = lasts_read b c.args.k c.phase_at.result c.phase_at.ensures c.if-is-endless.ensures in
+    let lasts = lasts_read b c.args.k c.phase_at.result c.phase_at.ensures c.if-is_endless.ensures in
     quiet_told b self.bytes self.accepted self.places self.placed c.args.station c.args.k c.requires.phase (read-order b) scale c.args.place _ _ lasts
-    (c.in_ticks.ensures ∙ ap (λ (p : Phase). ticks scale p.lifetime) c.phase_at.ensures) c.next-move.ensures
+    (c.in_ticks.ensures ∙ ap (λ (p : Phase). ticks scale p.lifetime) c.phase_at.ensures) c.next_move.ensures

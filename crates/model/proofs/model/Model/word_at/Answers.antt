@@ -2,12 +2,12 @@ use Rattle.std.proofs.Common.{Some, ap, ◌∙◌}
 use Rattle.model.proofs.Words.{word_told}
 use Rattle.model.proofs.model.Model.word_at.Goals as goal
 
-pub returns-in-err-found : goal.returns-in-err-found
-returns-in-err-found c =
-    c.from-residual.ensures
-    ∙ word_told _ c.args.k c.args.place c.phase-at-phase.result _ c.phase-at-phase.ensures c.if-is-endless.ensures c.in-err-found.ensures
+pub returns-in_err-found : goal.returns-in_err-found
+returns-in_err-found c =
+    c.from_residual.ensures
+    ∙ word_told _ c.args.k c.args.place c.phase_at-phase.result _ c.phase_at-phase.ensures c.if-is_endless.ensures c.in_err-found.ensures
 
 pub returns : goal.returns
 returns c =
-    ap Some c.word-in.ensures
-    ∙ word_told _ c.args.k c.args.place c.phase-at-phase.result _ c.phase-at-phase.ensures c.if-is-endless.ensures c.in-ok-found.ensures
+    ap Some c.word_in.ensures
+    ∙ word_told _ c.args.k c.args.place c.phase_at-phase.result _ c.phase_at-phase.ensures c.if-is_endless.ensures c.in_ok-found.ensures

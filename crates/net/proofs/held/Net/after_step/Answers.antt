@@ -33,7 +33,7 @@ returns g c =
     let many : length states ≡ n = c.step-answer.auto.states ∙ length-take-le n x.table (omega (arith, x.long, c.count-stations.ensures.few)) in
     let eq = ap (λ k. answer_call net ps (step (length es)) (state_of (take k x.table) x.total)) is in
     let kept =
-    subst (λ (σ : List StationState). Within σ x.total) (sym (ap (λ t. t.stations) c.step-answer.ensures.states-left))
+    subst (λ (σ : List StationState). Within σ x.total) (sym (ap (λ t. t.stations) c.step-answer.ensures.states_left))
     (step_within net ps (state_of (take n x.table) x.total) (within_take x.table n x.total x.within) (length es))
     in
     record {
@@ -41,7 +41,7 @@ returns g c =
       slots = c.step-answer.ensures.slots ∙ ap (λ o. written o.answer es) eq;
       state =
           ap (λ σ. state_of σ x.total) (front states x.table n many (length net.stations) (sym is))
-          ∙ c.step-answer.ensures.states-left ∙ ap (λ o. o.state) eq;
+          ∙ c.step-answer.ensures.states_left ∙ ap (λ o. o.state) eq;
       within = within_front states x.table n many x.total kept x.within;
       long = length_front states x.table n many x.long c.count-stations.ensures.few;
     }

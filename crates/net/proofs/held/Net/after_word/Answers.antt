@@ -33,7 +33,7 @@ returns g c =
     let many : length states ≡ n = c.word-answer.auto.states ∙ length-take-le n x.table (omega (arith, x.long, c.count-stations.ensures.few)) in
     let eq = ap (λ k. answer_call net ps (word c.args.port c.args.value (length es)) (state_of (take k x.table) x.total)) is in
     let kept =
-    subst (λ (σ : List StationState). Within σ x.total) (sym (ap (λ t. t.stations) c.word-answer.ensures.states-left))
+    subst (λ (σ : List StationState). Within σ x.total) (sym (ap (λ t. t.stations) c.word-answer.ensures.states_left))
     (word_within net ps (state_of (take n x.table) x.total) (within_take x.table n x.total x.within) c.args.port c.args.value (length es))
     in
     record {
@@ -41,7 +41,7 @@ returns g c =
       slots = c.word-answer.ensures.slots ∙ ap (λ o. written o.answer es) eq;
       state =
           ap (λ σ. state_of σ x.total) (front states x.table n many (length net.stations) (sym is))
-          ∙ c.word-answer.ensures.states-left ∙ ap (λ o. o.state) eq;
+          ∙ c.word-answer.ensures.states_left ∙ ap (λ o. o.state) eq;
       within = within_front states x.table n many x.total kept x.within;
       long = length_front states x.table n many x.long c.count-stations.ensures.few;
     }

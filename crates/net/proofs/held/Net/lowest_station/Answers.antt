@@ -5,8 +5,8 @@ use Rattle.net.specs.Nets.{net_of}
 use Rattle.net.proofs.Asked.{place_under, searched}
 use Rattle.net.proofs.held.Net.lowest_station.Goals as goal
 
-pub overflow-add-result : goal.overflow-add-result
-overflow-add-result g c =
+pub overflow_add-result : goal.overflow_add-result
+overflow_add-result g c =
     let x = c.args.self.now in
     let n = c.count-stations.result in
     let net = net_of g.M.Machine.meaning x in

@@ -17,4 +17,4 @@ pub returns : goal.returns
 returns g c =
     let x = c.args.self.now in
     tells_all (net_of g.M.Machine.meaning x) x.table x.total c.args.station (omega (arith, c.if-station-eq0.false))
-    (omega (arith, c.count.ensures.value, c.if-station-count.false)) c.stance-of-info.result c.stance-of-info.ensures
+    (omega (arith, c.count.ensures.value, c.if-station-count.false)) c.stance_of-info.result c.stance_of-info.ensures

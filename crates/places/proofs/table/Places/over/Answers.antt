@@ -9,7 +9,7 @@ pub returns : goal.returns
 returns g c =
     let b = c.args.book.now in
     let list = c.walk.new.list in
-    let first = c.two-at.result in
+    let first = c.two_at.result in
     let front : take (c.min.result - 0) list ≡ take 16 (followed b first) = elim c.match-walk.branch [
       | in-Ok w ↦
           let told = w.in-Ok.ensures in
@@ -20,4 +20,4 @@ returns g c =
           let z : c.min.result - 0 ≡ 0 = omega (arith, w.count-is, c.min.ensures) in
           ap (λ n. take n list) z ∙ ap (take 16) none
     ] in
-    c.put-stations.ensures ∙ ap (places_along b) (front ∙ ap (λ i. take 16 (followed b i)) c.two-at.ensures)
+    c.put_stations.ensures ∙ ap (places_along b) (front ∙ ap (λ i. take 16 (followed b i)) c.two_at.ensures)
