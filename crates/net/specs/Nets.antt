@@ -7,6 +7,7 @@ use Rattle.semantics.specs.Trees.{Path}
 use Rattle.semantics.specs.Machine.{Meaning}
 use Rattle.semantics.specs.Net.{Net, NetState, in_stance}
 use Rattle.semantics.specs.Calls.{Answer, Call, Outcome, Made, answer_call}
+use Rattle.machine.specs.declared.Machine.{Ghosts}
 use Rattle.machine.specs.declared.gear.Gear.{Gear}
 use Rattle.gearing.specs.Gearing.{geared_by}
 use Rattle.delivery.specs.Known.{learned, learned_net}
@@ -22,18 +23,18 @@ abbrev pub state_over : {M : Type 0} → (M → Meaning) → Gear M → List Sta
 state_over meaning g table total = record { stations = take (length (learned (geared_by (meaning g.below) g.factors))) table; total = total }
 
 -- the machine of a net, as it is geared
-abbrev pub gear_of : {M : Type 0} → Held M → Gear M
+abbrev pub gear_of : {M : Type 0} {G : Ghosts M} → Held M G → Gear M
 gear_of x = x.machine
 
 -- the net, and its state
-abbrev pub net_of : {M : Type 0} → (M → Meaning) → Held M → Net
+abbrev pub net_of : {M : Type 0} {G : Ghosts M} → (M → Meaning) → Held M G → Net
 net_of meaning x = net_over meaning x.machine x.order x.parts
 
-abbrev pub state_of : {M : Type 0} → (M → Meaning) → Held M → NetState
+abbrev pub state_of : {M : Type 0} {G : Ghosts M} → (M → Meaning) → Held M G → NetState
 state_of meaning x = state_over meaning x.machine x.table x.total
 
 -- how it is to answer a call that comes with these paths
-abbrev pub outcome : {M : Type 0} → (M → Meaning) → Held M → List Path → Call → Outcome
+abbrev pub outcome : {M : Type 0} {G : Ghosts M} → (M → Meaning) → Held M G → List Path → Call → Outcome
 outcome meaning x ps c = answer_call (net_of meaning x) ps c (state_of meaning x)
 
 -- an answer that tells of no event
@@ -46,18 +47,18 @@ abbrev pub later : ℕ → StationState → StationState
 later d x = in_stance x.stance (x.elapsed + d)
 
 -- what a making answers: the number of its events, or its refusal
-abbrev pub count_of : {M : Type 0} → Result (Held M × ℕ) Refusal → Result ℕ Refusal
+abbrev pub count_of : {M : Type 0} {G : Ghosts M} → Result (Held M G × ℕ) Refusal → Result ℕ Refusal
 count_of (Ok x) = Ok x.1
 count_of (Err e) = Err e
 
 -- the same of a net alone, which has an event for each station
-abbrev pub count_built : {M : Type 0} → (M → Meaning) → Result (Held M) Refusal → Result ℕ Refusal
+abbrev pub count_built : {M : Type 0} {G : Ghosts M} → (M → Meaning) → Result (Held M G) Refusal → Result ℕ Refusal
 count_built meaning (Ok x) = Ok (length (net_of meaning x).stations)
 count_built meaning (Err e) = Err e
 
 -- A net in code stands for a making: it is over that machine, its net is the one that is made, as far as a net can learn
 -- of the stances, and its state is the first state.
-pub record StandsFor {M : Type 0} (meaning : M → Meaning) (machine : M) (made : Made) (x : Held M) : Type 0 where
+pub record StandsFor {M : Type 0} {G : Ghosts M} (meaning : M → Meaning) (machine : M) (made : Made) (x : Held M G) : Type 0 where
   pub over : (gear_of x).below ≡ machine
   pub net : net_of meaning x ≡ learned_net made.net
   pub state : state_of meaning x ≡ made.state

@@ -59,19 +59,14 @@ invariant_of-result g c =
     let x = c.in_ok-machine.machine in
     let finer = geared_by (g.M.Machine.meaning x.below) x.factors in
     let few = (geared_sound (g.M.Machine.meaning x.below) x.factors (g.M.Machine.sound x.below)).few_stations in
-    let is = c.opening_states-table.ensures in (
-      ap length is ∙ table_long finer few,
-      (
-        omega (arith, c.if-parts-eq0.false),
-        (
-          c.if-parts-gt1000.false,
-          (
-            omega arith,
-            (subst (λ (t : List StationState). Within t 0) (sym is) (opened_within _ finer), tt),
-          ),
-        ),
-      ),
-    )
+    let is = c.opening_states-table.ensures in
+    record {
+      long = ap length is ∙ table_long finer few;
+      some = omega (arith, c.if-parts-eq0.false);
+      few = c.if-parts-gt1000.false;
+      fits = omega arith;
+      within = subst (λ (t : List StationState). Within t 0) (sym is) (opened_within _ finer);
+    }
 
 pub returns : goal.returns
 returns g c =
