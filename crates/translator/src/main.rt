@@ -11,6 +11,7 @@ use book_check::check;
 use report::account::account;
 use report::listing::{listing, refusal_text};
 use std::alloc::{AllocError, AllocFailed};
+use std::process::ExitCode;
 use std::{env, fs, io};
 
 const USAGE: &str = "usage:
@@ -113,6 +114,9 @@ fn run(rt: &HostRuntime) -> Result<(), Stop> {
     }
 }
 
-fn main(rt: HostRuntime) -> Result<(), Stop> {
-    run(&rt)
+fn main(rt: HostRuntime) -> ExitCode {
+    match run(&rt) {
+        Ok(()) => ExitCode::SUCCESS,
+        Err(_) => ExitCode::FAILURE,
+    }
 }
