@@ -5,6 +5,7 @@ usage: python3 tools/respell.py [--dry]     at the top of the repository
 
 A name with dashes that a file of specs/ or proofs/ defines is turned wherever it stands outside comments and strings: `first-faulty` to
 `first_faulty`, `Model-nets-step` to `ModelNetsStep`. Names of libraries, goals, steps of a proof (`c.…`) and functions of src/ stay. Names in `code` of README.md and docs/ are turned too.
+A library's `AllByRecursion`, brought in under the name of another of its words, is called by its own name.
 It says which names would fall together. The crate check, whose name is a library's now, becomes book_check.
 """
 import collections
@@ -19,6 +20,8 @@ RULESET = re.compile(r"\s*(?:pub +)?ruleset +([^\s:(){};.,]+)")
 TOKEN = re.compile(r"--(?= |$)[^\n]*|//[^\n]*|\"(?:[^\"\\\n]|\\.)*\"|[^\s(){}.;,@\"«»\[\]\\|&]+|.", re.S)
 IMPORT = re.compile(r"use\s+(?:pub\s+)?(Rattle\.(?:std|core)\.[^\s{;]+|borrow\.[^\s{;]+|denote\.[^\s{;]+|mathlib\.[^\s{;]+|Prim[^\s{;]*|lib\.[^\s{;]+)\.\{([^}]*)\}")
 STEPS = {"c", "goal", "w", "l", "g"}
+# Names under an `as`, parameters that are fields too, and what a line of another form declares.
+MORE = set("Steps-by Book-right read-order read-path read-paths hearer-port sender-port three-ticks wait-call word-call making-of goes-on-by net-goes-on".split())
 # Names that would fall together with a module, or with a field, and get a word more.
 OTHERWISE = {"One-time": "AreOneTime", "Reads-back": "IsReadBack", "Writes-back": "IsWrittenBack", "low-open": "open_low", "L-some": "one_or_more", "getD-small": "get_or_small"}
 
@@ -41,6 +44,14 @@ def turned(name):
 
 def is_own(name):
     return re.fullmatch(r"[A-Za-z][A-Za-z0-9_]*(-[A-Za-z0-9_]+)+'*", name) is not None
+
+
+def by_own_name(t):
+    """`All` in a file that brings in `AllByRecursion as All` is `AllByRecursion`."""
+    if "AllByRecursion as All" not in t:
+        return t
+    t = t.replace("AllByRecursion as All", "AllByRecursion")
+    return "".join("AllByRecursion" if w == "All" else w for w in TOKEN.findall(t))
 
 
 def rename_crate(old, new):
@@ -84,6 +95,7 @@ def main(dry):
             own.add(name)
             if inside == "record":
                 fields.add(name)
+    own |= MORE
     own -= {n for n in goals if re.match(r"(returns|overflow|loop|invariant|bounds|slice|nonzero|decreases)", n)}
     own = {n for n in own if not re.match(r"(returns-|overflow[-_])", n)}
     clash = collections.defaultdict(set)
@@ -113,7 +125,7 @@ def main(dry):
                     clash[(w, new)].add(p)
                 w = new
             done.append(w)
-        out[p] = "".join(done)
+        out[p] = by_own_name("".join(done))
     for (a, b), ps in sorted(clash.items()):
         print(f"falls together: {a} and {b} in {sorted(ps)[0]} (+{len(ps) - 1})")
     news = collections.defaultdict(set)

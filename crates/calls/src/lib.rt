@@ -3,7 +3,7 @@
 #![tactic(auto)]
 
 ghost use Rattle.std.specs.Prelude.{◌≡◌, ◌≤◌, length};
-ghost use Rattle.semantics.specs.Calls.{bad_path, bad_paths, answer_call, step as step_call, word as word-call};
+ghost use Rattle.semantics.specs.Calls.{bad_path, bad_paths, answer_call, step as step_call, word as word_call};
 ghost use Rattle.delivery.specs.Known.{learned};
 ghost use Rattle.calls.specs.Slots.{counted, written, net_of, state_of, turn, due_among};
 
@@ -111,9 +111,9 @@ pub fn word<M: Machine>(
 ) -> Result<usize, Refusal>
     requires fine { (1 ≤ parts) × (parts ≤ 1000) }
     requires there { length states.old ≡ length (M.Machine.meaning machine.now) }
-    ensures answer { result ≡ counted (answer_call (net_of (learned (M.Machine.meaning machine.now)) order parts) paths.now (word-call port value (length events.old)) (state_of states.old total)).answer }
-    ensures states_left { state_of states.new total ≡ (answer_call (net_of (learned (M.Machine.meaning machine.now)) order parts) paths.now (word-call port value (length events.old)) (state_of states.old total)).state }
-    ensures slots { events.new ≡ written (answer_call (net_of (learned (M.Machine.meaning machine.now)) order parts) paths.now (word-call port value (length events.old)) (state_of states.old total)).answer events.old }
+    ensures answer { result ≡ counted (answer_call (net_of (learned (M.Machine.meaning machine.now)) order parts) paths.now (word_call port value (length events.old)) (state_of states.old total)).answer }
+    ensures states_left { state_of states.new total ≡ (answer_call (net_of (learned (M.Machine.meaning machine.now)) order parts) paths.now (word_call port value (length events.old)) (state_of states.old total)).state }
+    ensures slots { events.new ≡ written (answer_call (net_of (learned (M.Machine.meaning machine.now)) order parts) paths.now (word_call port value (length events.old)) (state_of states.old total)).answer events.old }
 {
     if let Some(place) = first_bad_path(states.len(), paths) {
         return Err(Refusal {

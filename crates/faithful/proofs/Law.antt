@@ -2,7 +2,7 @@
 use Rattle.std.proofs.Common.{ℕ, ◌<◌, ◌≤◌, List, [], ◌∷◌, ◌++◌, map, length, Some, None, Option}
 use Prim.Native.Nat.{◌∣◌}
 use native.Mathlib.Nat.{dvd-mul_left_of_dvd}
-use Rattle.std.specs.List.{flat_map, AllByRecursion as All}
+use Rattle.std.specs.List.{flat_map, AllByRecursion}
 use Rattle.records.specs.Fits.{HighFits}
 use Rattle.semantics.specs.Times.{Fraction, HighEnd, Closed, Open, Absent, Order}
 use Rattle.semantics.specs.Trees.{Edge, Phase, lifetime_of, words_of, edges_of, Station, ModelNet}
@@ -21,20 +21,20 @@ pub record PhaseLaw (s n : ℕ) (f : Phase) : Type 0 where
   pub life_fits : LifeInTicks s (lifetime_of f)
   pub next_here : NextHere n f
   pub few_words : length (words_of f) ≤ 4
-  pub edges_fit : All (EdgeLaw s n) (edges_of f)
+  pub edges_fit : AllByRecursion (EdgeLaw s n) (edges_of f)
 
 -- a station of a net with the scale L
 pub record StationLaw (L : ℕ) (st : Station) : Type 0 where
   pub some_scale : 1 ≤ station_scale st
   pub divides : station_scale st ∣ L
   pub opening_here : st.opening < length st.phases
-  pub phases_fit : All (PhaseLaw (station_scale st) (length st.phases)) st.phases
+  pub phases_fit : AllByRecursion (PhaseLaw (station_scale st) (length st.phases)) st.phases
 
 -- all of these numbers that are not 0 divide s
 abbrev Divide : ℕ → List ℕ → Type 0
-Divide s ds = All (λ d. 1 ≤ d → d ∣ s) ds
+Divide s ds = AllByRecursion (λ d. 1 ≤ d → d ∣ s) ds
 
-pub all_parts : {A : Type 0} (P : A → Type 0) (xs ys : List A) → All P (xs ++ ys) → All P xs × All P ys
+pub all_parts : {A : Type 0} (P : A → Type 0) (xs ys : List A) → AllByRecursion P (xs ++ ys) → AllByRecursion P xs × AllByRecursion P ys
 all_parts P [] ys h = (tt, h)
 all_parts P (x ∷ xs) ys h = let r = all_parts P xs ys h.1 in ((h.0, r.0), r.1)
 
@@ -51,7 +51,7 @@ module _ (s : ℕ) where
   high_law (Open t) small h = in_ticks s t small h.0
   high_law Absent small h = tt
 
-  edges_law : (n : ℕ) (es : List Edge) → All (LawfulEdge n) es → Divide s (flat_map edge_denominators es) → All (EdgeLaw s n) es
+  edges_law : (n : ℕ) (es : List Edge) → AllByRecursion (LawfulEdge n) es → Divide s (flat_map edge_denominators es) → AllByRecursion (EdgeLaw s n) es
   edges_law n [] lawful h = tt
   edges_law n (e ∷ es) lawful h =
       let r = all_parts (λ d. 1 ≤ d → d ∣ s) (edge_denominators e) (flat_map edge_denominators es) h in (
@@ -63,7 +63,7 @@ module _ (s : ℕ) where
         edges_law n es lawful.1 r.1,
       )
 
-  phases_law : (o : Order) (n : ℕ) (fs : List Phase) → All (LawfulPhase o n) fs → Divide s (flat_map phase_denominators fs) → All (PhaseLaw s n) fs
+  phases_law : (o : Order) (n : ℕ) (fs : List Phase) → AllByRecursion (LawfulPhase o n) fs → Divide s (flat_map phase_denominators fs) → AllByRecursion (PhaseLaw s n) fs
   phases_law o n [] lawful h = tt
   phases_law o n (f ∷ fs) lawful h =
       let r = all_parts (λ d. 1 ≤ d → d ∣ s) (phase_denominators f) (flat_map phase_denominators fs) h in
@@ -80,7 +80,7 @@ module _ (s : ℕ) where
 pub scale_some : (st : Station) → 1 ≤ station_scale st
 scale_some st = (least_common (flat_map phase_denominators st.phases)).some
 
-stations_law : (o : Order) (L : ℕ) (sts : List Station) → All (LawfulStation o) sts → Divide L (map station_scale sts) → All (StationLaw L) sts
+stations_law : (o : Order) (L : ℕ) (sts : List Station) → AllByRecursion (LawfulStation o) sts → Divide L (map station_scale sts) → AllByRecursion (StationLaw L) sts
 stations_law o L [] lawful h = tt
 stations_law o L (st ∷ sts) lawful h = (
   record {
@@ -96,7 +96,7 @@ stations_law o L (st ∷ sts) lawful h = (
 -- of the whole net
 pub record NetLaw (m : ModelNet) : Type 0 where
   pub some_scale : 1 ≤ model_scale m
-  pub stations_fit : All (StationLaw (model_scale m)) m.stations
+  pub stations_fit : AllByRecursion (StationLaw (model_scale m)) m.stations
 
 pub net_law : (m : ModelNet) → LawfulModel m → NetLaw m
 net_law m lawful =

@@ -1,7 +1,7 @@
 -- A printed automaton means what its model's station means.
 use Rattle.std.proofs.Common.{◌≡◌, ℕ, zero, suc, ◌+◌, ◌*◌, ◌<◌, ◌≤◌, Bool, true, false, cond, ◌&&◌, List, [], ◌∷◌, ◌++◌, map, length, drop, Some, None, Option, sym, refl, ap, ◌∙◌, subst, subst₂, arith, length-drop}
 use native.Mathlib.Nat.{one-le-mul}
-use Rattle.std.specs.List.{AllByRecursion as All}
+use Rattle.std.specs.List.{AllByRecursion}
 use Rattle.std.proofs.ByRecursion.{All-get_or}
 use Rattle.std.proofs.lemmas.Bool.{and_right}
 use Rattle.semantics.specs.Times.{Fraction, fraction, Window, Order, inside, counts, itself}
@@ -59,7 +59,7 @@ module _ (o : Order) (L : ℕ) (st : Station) (law : StationLaw L st) where
 
   hears_same : (life : Option Fraction) → LifeInTicks (station_scale st) life → (ms : List Transition) (p v : ℕ) (age clock : Fraction) → Shows (station_scale st) age clock →
       first (transition_fits p v clock) (λ x. x.goal) ms ≡ None →
-      (es : List Edge) → All (EdgeLaw (station_scale st) (length st.phases)) es →
+      (es : List Edge) → AllByRecursion (EdgeLaw (station_scale st) (length st.phases)) es →
       Both (StandsFor st) (first (edge_fits o life p v age) (λ x. stance_number x.goal 0) es)
       (first (transition_fits p v clock) (λ x. x.goal) (map (print_edge o (station_scale st) st.phases life) es ++ ms))
   hears_same life lf ms p v age clock shows none [] laws = subst (Both (StandsFor st) None) (sym none) tt

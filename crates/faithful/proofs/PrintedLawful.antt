@@ -2,7 +2,7 @@
 use Rattle.std.proofs.Common.{◌≡◌, ℕ, zero, suc, ◌+◌, ◌*◌, ◌<◌, ◌≤◌, Bool, true, false, cond, not, ◌&&◌, ltb, leb, List, [], ◌∷◌, ◌++◌, map, length, drop, Some, None, sum_by, Option, sym, refl, ap, ◌∙◌, subst, mul-le-mul_right, div-le_self, arith, length-append}
 use native.Mathlib.Nat.{one-le-mul}
 use lib.ListN.{length-map}
-use Rattle.std.specs.List.{flat_map, AllByRecursion as All}
+use Rattle.std.specs.List.{flat_map, AllByRecursion}
 use Rattle.std.proofs.ByRecursion.{All-get_or, All-from_get_or, All-append}
 use Rattle.std.proofs.lemmas.List.Sums.{sum_by-cons, sum_by-append}
 use Rattle.std.proofs.lemmas.Bool.{le-leb, and_parts}
@@ -89,31 +89,31 @@ hears_only o s all life [] = tt
 hears_only o s all life (e ∷ es) = (refl, hears_only o s all life es)
 
 hearing_resets : (o : Order) (s : ℕ) (all : List Phase) (life : Option Fraction) (es : List Edge) →
-    All (λ t. is_move t.label ≡ false → t.resets ≡ true) (map (print_edge o s all life) es)
+    AllByRecursion (λ t. is_move t.label ≡ false → t.resets ≡ true) (map (print_edge o s all life) es)
 hearing_resets o s all life [] = tt
 hearing_resets o s all life (e ∷ es) = ((λ _. refl), hearing_resets o s all life es)
 
 not_both : {P : Type 0} (b : Bool) → b ≡ true → b ≡ false → P
 not_both b e f = absurd (let z : ◌≡◌ {A = ℕ} 0 1 = cc in omega arith)
 
-move_resets : (here next : ℕ) (b : Option ℕ) (ws : List Word) → All (λ t. is_move t.label ≡ false → t.resets ≡ true) (print_moves here next b ws)
+move_resets : (here next : ℕ) (b : Option ℕ) (ws : List Word) → AllByRecursion (λ t. is_move t.label ≡ false → t.resets ≡ true) (print_moves here next b ws)
 move_resets here next None ws = tt
 move_resets here next (Some b) [] = ((λ _. refl), tt)
 move_resets here next (Some b) (w ∷ ws) = ((λ e. not_both _ (sends_moves here next (from_on b) w ws) e), tt)
 
 -- the guards are apart where the edges are
 module _ (o : Order) (s : ℕ) (all : List Phase) (life : Option Fraction) (lf : LifeInTicks s life) (n p v : ℕ) (age t : Fraction) (shows : Shows s age t)
-    (ms : List Transition) (deaf : All (λ x. transition_fits p v t x ≡ false) ms) where
-  deaf_alone : (xs : List Transition) → All (λ x. transition_fits p v t x ≡ false) xs → AtMostOne (transition_fits p v t) xs
+    (ms : List Transition) (deaf : AllByRecursion (λ x. transition_fits p v t x ≡ false) ms) where
+  deaf_alone : (xs : List Transition) → AllByRecursion (λ x. transition_fits p v t x ≡ false) xs → AtMostOne (transition_fits p v t) xs
   deaf_alone [] h = tt
   deaf_alone (x ∷ xs) h = ((λ _. h.1), deaf_alone xs h.1)
 
-  others : (es : List Edge) → All (EdgeLaw s n) es → All (λ e. edge_fits o life p v age e ≡ false) es →
-      All (λ x. transition_fits p v t x ≡ false) (map (print_edge o s all life) es ++ ms)
+  others : (es : List Edge) → AllByRecursion (EdgeLaw s n) es → AllByRecursion (λ e. edge_fits o life p v age e ≡ false) es →
+      AllByRecursion (λ x. transition_fits p v t x ≡ false) (map (print_edge o s all life) es ++ ms)
   others [] laws h = deaf
   others (e ∷ es) laws h = (sym (fits_same o s all life lf n e laws.0 age t shows p v) ∙ h.0, others es laws.1 h.1)
 
-  guards_apart : (es : List Edge) → All (EdgeLaw s n) es → AtMostOne (edge_fits o life p v age) es →
+  guards_apart : (es : List Edge) → AllByRecursion (EdgeLaw s n) es → AtMostOne (edge_fits o life p v age) es →
       AtMostOne (transition_fits p v t) (map (print_edge o s all life) es ++ ms)
   guards_apart [] laws h = deaf_alone ms deaf
   guards_apart (e ∷ es) laws h =
@@ -151,9 +151,9 @@ module _ (o : Order) (L : ℕ) (st : Station) (lawful : LawfulStation o st) (law
     guard_holds = guard_holds s o life e law.some_scale lf el.low_fits el.high_fits holds;
   }
 
-  edges_lawful : (life : Option Fraction) → SmallLife life → LifeInTicks s life → (es : List Edge) → All (LawfulEdge (length st.phases)) es →
-      All (EdgeLaw s (length st.phases)) es → All (WindowHolds o life) es →
-      All (LawfulTransition many s (life_ticks s life)) (map (print_edge o s st.phases life) es)
+  edges_lawful : (life : Option Fraction) → SmallLife life → LifeInTicks s life → (es : List Edge) → AllByRecursion (LawfulEdge (length st.phases)) es →
+      AllByRecursion (EdgeLaw s (length st.phases)) es → AllByRecursion (WindowHolds o life) es →
+      AllByRecursion (LawfulTransition many s (life_ticks s life)) (map (print_edge o s st.phases life) es)
   edges_lawful life small lf [] a b c = tt
   edges_lawful life small lf (e ∷ es) a b c = (edge_lawful life small lf e a.0 b.0 c.0, edges_lawful life small lf es a.1 b.1 c.1)
 
@@ -210,7 +210,7 @@ module _ (o : Order) (L : ℕ) (st : Station) (lawful : LawfulStation o st) (law
     abbrev to : ℕ
     to = place_of st.phases (next_of (phase_at st.phases i))
 
-    first_lawful : (ws : List Word) → words_of (phase_at st.phases i) ≡ ws → All LawfulWord ws →
+    first_lawful : (ws : List Word) → words_of (phase_at st.phases i) ≡ ws → AllByRecursion LawfulWord ws →
         LawfulTransition many s (Some (ticks s t)) (print_move n to (from_on (ticks s t)) ws)
     first_lawful [] d h = record {
       goal_here = quiet_here (next_of (phase_at st.phases i)) nl;
@@ -228,7 +228,7 @@ module _ (o : Order) (L : ℕ) (st : Station) (lawful : LawfulStation o st) (law
   -- by the kind of phase; f is the phase at i
   module _ (i n : ℕ) (l : i < length st.phases) (en : n ≡ place_of st.phases i + 0) where
     moves_lawful : (f : Phase) → phase_at st.phases i ≡ f → LawfulPhase o (length st.phases) f →
-        All (LawfulTransition many s (life_ticks s (lifetime_of f))) (print_moves n (place_of st.phases (next_of f)) (life_ticks s (lifetime_of f)) (words_of f))
+        AllByRecursion (LawfulTransition many s (life_ticks s (lifetime_of f))) (print_moves n (place_of st.phases (next_of f)) (life_ticks s (lifetime_of f)) (words_of f))
     moves_lawful (endless edges) e lf = tt
     moves_lawful (lasting t words next edges) e lf =
         let nx : next_of (phase_at st.phases i) ≡ next = ap next_of e in
@@ -284,7 +284,7 @@ module _ (o : Order) (L : ℕ) (st : Station) (lawful : LawfulStation o st) (law
             (hearing_resets o s st.phases (lifetime_of f) (edges_of f)) (move_resets n next (life_ticks s (lifetime_of f)) (words_of f));
       }
 
-  word_at : (ws : List Word) → All LawfulWord ws → (j : ℕ) (w : Word) (rest : List Word) → drop j ws ≡ w ∷ rest → LawfulWord w
+  word_at : (ws : List Word) → AllByRecursion LawfulWord ws → (j : ℕ) (w : Word) (rest : List Word) → drop j ws ≡ w ∷ rest → LawfulWord w
   word_at [] h zero w rest d = absurd (let z : ◌≡◌ {A = ℕ} 0 1 = cc in omega arith)
   word_at [] h (suc j) w rest d = absurd (let z : ◌≡◌ {A = ℕ} 0 1 = cc in omega arith)
   word_at (x ∷ ws) h zero w rest d = let e : x ≡ w = cc in subst LawfulWord e h.0
@@ -371,7 +371,7 @@ stations_size o (st ∷ sts) =
     let d = stations_size o sts in
     omega arith
 
-all_lawful : (o : Order) (L : ℕ) (sts : List Station) → All (LawfulStation o) sts → All (StationLaw L) sts → All LawfulAutomaton (map (print_station o) sts)
+all_lawful : (o : Order) (L : ℕ) (sts : List Station) → AllByRecursion (LawfulStation o) sts → AllByRecursion (StationLaw L) sts → AllByRecursion LawfulAutomaton (map (print_station o) sts)
 all_lawful o L [] a b = tt
 all_lawful o L (st ∷ sts) a b = (station_lawful o L st a.0 b.0, all_lawful o L sts a.1 b.1)
 
@@ -383,6 +383,6 @@ printed_is_lawful m lawful =
       few_automata = subst (λ n. n ≤ 16) (sym many) lawful.few_stations;
       scale_fits = subst (λ n. n ≤ 1000000) (sym (printed_scale m lawful)) lawful.scale_fits;
       automata_fit = all_lawful m.order (model_scale m) m.stations lawful.stations_fit (net_law m lawful).stations_fit;
-      paths_fit = subst (λ n. All (LawfulPath n) m.paths) (sym many) lawful.paths_fit;
+      paths_fit = subst (λ n. AllByRecursion (LawfulPath n) m.paths) (sym many) lawful.paths_fit;
       few_records = let a = stations_size m.order m.stations in let b = lawful.few_records in omega arith;
     }

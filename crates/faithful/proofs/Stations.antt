@@ -2,7 +2,7 @@
 use Rattle.std.proofs.Common.{◌≡◌, ℕ, zero, suc, ◌+◌, ◌*◌, ◌/◌, ◌<◌, ◌≤◌, Bool, true, false, ◌&&◌, eqb, ltb, ◌⊎◌, List, [], ◌∷◌, ◌++◌, map, length, drop, Some, None, Option, sym, refl, ap, ◌∙◌, subst, inl, inr, arith}
 use Prim.Native.Nat.{◌∣◌}
 use native.Mathlib.Nat.{one-le-mul, div-mul_cancel}
-use Rattle.std.specs.List.{AllByRecursion as All}
+use Rattle.std.specs.List.{AllByRecursion}
 use Rattle.std.proofs.lemmas.Bool.{le-leb, lt-ltb, ne_eqb, eqb-true}
 use Rattle.semantics.specs.Times.{Fraction, Proper, Order, inside, whole, plus, over, zero_time}
 use Rattle.semantics.specs.Trees.{Word, Edge, Phase, endless, lasting, lifetime_of, words_of, edges_of, next_of, phase_at, Station, Transition, location_at}
@@ -52,13 +52,13 @@ any_back Q f out [] ms h = h
 any_back Q f out (e ∷ es) ms (inl h) = absurd (out e h)
 any_back Q f out (e ∷ es) ms (inr h) = any_back Q f out es ms h
 
-pub moves_deaf : (p v : ℕ) (t : Fraction) (here next : ℕ) (b : Option ℕ) (ws : List Word) → All (λ x. transition_fits p v t x ≡ false) (print_moves here next b ws)
+pub moves_deaf : (p v : ℕ) (t : Fraction) (here next : ℕ) (b : Option ℕ) (ws : List Word) → AllByRecursion (λ x. transition_fits p v t x ≡ false) (print_moves here next b ws)
 moves_deaf p v t here next None ws = tt
 moves_deaf p v t here next (Some b) [] = (refl, tt)
 moves_deaf p v t here next (Some b) (w ∷ []) = (refl, tt)
 moves_deaf p v t here next (Some b) (w ∷ x ∷ xs) = (refl, tt)
 
-pub none_fits : {A : Type 0} (fits : A → Bool) (Q : A → Type 0) (ms : List A) → All (λ x. fits x ≡ false) ms → Any (λ x. (fits x ≡ true) × Q x) ms → ⊥
+pub none_fits : {A : Type 0} (fits : A → Bool) (Q : A → Type 0) (ms : List A) → AllByRecursion (λ x. fits x ≡ false) ms → Any (λ x. (fits x ≡ true) × Q x) ms → ⊥
 none_fits fits Q [] e h = h
 none_fits fits Q (x ∷ xs) e (inl h) = let a = e.0 in let b = h.0 in let z : ◌≡◌ {A = ℕ} 0 1 = cc in omega arith
 none_fits fits Q (x ∷ xs) e (inr h) = none_fits fits Q xs e.1 h
@@ -149,7 +149,7 @@ module _ (o : Order) (L : ℕ) (st : Station) (some : 1 ≤ L) (factor : 1 ≤ L
       go (at_work j w rest e f h) = absurd (let b = lt-ltb 0 x.sent (omega arith) in let z : ◌≡◌ {A = ℕ} 0 1 = cc in omega arith)
 
   hears_forward : (life : Option Fraction) → LifeInTicks (station_scale st) life → (p v : ℕ) (x x' : ModelState) (y : AutomatonState) → Shows (station_scale st) x.age y.clock → (ms : List Transition) →
-      (es : List Edge) → All (EdgeLaw (station_scale st) (length st.phases)) es →
+      (es : List Edge) → AllByRecursion (EdgeLaw (station_scale st) (length st.phases)) es →
       Any (λ e. (edge_fits o life p v x.age e ≡ true) × (x' ≡ fresh e.goal)) es →
       (y' : AutomatonState) × (Any (λ t. (transition_fits p v y.clock t ≡ true) × (y' ≡ through t y)) (map (print_edge o (station_scale st) st.phases life) es ++ ms) × Matches st x' y')
   hears_forward life lf p v x x' y shows ms [] laws h = absurd h
@@ -165,8 +165,8 @@ module _ (o : Order) (L : ℕ) (st : Station) (some : 1 ≤ L) (factor : 1 ≤ L
       (r.0, (inr r.1.0, r.1.1))
 
   hears_back : (life : Option Fraction) → LifeInTicks (station_scale st) life → (p v : ℕ) (x : ModelState) (y y' : AutomatonState) → Shows (station_scale st) x.age y.clock → (ms : List Transition) →
-      All (λ t. transition_fits p v y.clock t ≡ false) ms →
-      (es : List Edge) → All (EdgeLaw (station_scale st) (length st.phases)) es →
+      AllByRecursion (λ t. transition_fits p v y.clock t ≡ false) ms →
+      (es : List Edge) → AllByRecursion (EdgeLaw (station_scale st) (length st.phases)) es →
       Any (λ t. (transition_fits p v y.clock t ≡ true) × (y' ≡ through t y)) (map (print_edge o (station_scale st) st.phases life) es ++ ms) →
       (x' : ModelState) × (Any (λ e. (edge_fits o life p v x.age e ≡ true) × (x' ≡ fresh e.goal)) es × Matches st x' y')
   hears_back life lf p v x y y' shows ms deaf [] laws h = absurd (none_fits (transition_fits p v y.clock) (λ t. y' ≡ through t y) ms deaf h)
@@ -182,8 +182,8 @@ module _ (o : Order) (L : ℕ) (st : Station) (some : 1 ≤ L) (factor : 1 ≤ L
       (r.0, (inr r.1.0, r.1.1))
 
   deaf_forward : (life : Option Fraction) → LifeInTicks (station_scale st) life → (p v : ℕ) (age clock : Fraction) → Shows (station_scale st) age clock → (ms : List Transition) →
-      All (λ t. transition_fits p v clock t ≡ false) ms → (es : List Edge) → All (EdgeLaw (station_scale st) (length st.phases)) es →
-      All (λ e. edge_fits o life p v age e ≡ false) es → All (λ t. transition_fits p v clock t ≡ false) (map (print_edge o (station_scale st) st.phases life) es ++ ms)
+      AllByRecursion (λ t. transition_fits p v clock t ≡ false) ms → (es : List Edge) → AllByRecursion (EdgeLaw (station_scale st) (length st.phases)) es →
+      AllByRecursion (λ e. edge_fits o life p v age e ≡ false) es → AllByRecursion (λ t. transition_fits p v clock t ≡ false) (map (print_edge o (station_scale st) st.phases life) es ++ ms)
   deaf_forward life lf p v age clock shows ms deaf [] laws h = deaf
   deaf_forward life lf p v age clock shows ms deaf (e ∷ es) laws h = (
     sym (fits_same o (station_scale st) st.phases life lf (length st.phases) e laws.0 age clock shows p v) ∙ h.0,
@@ -191,8 +191,8 @@ module _ (o : Order) (L : ℕ) (st : Station) (some : 1 ≤ L) (factor : 1 ≤ L
   )
 
   deaf_back : (life : Option Fraction) → LifeInTicks (station_scale st) life → (p v : ℕ) (age clock : Fraction) → Shows (station_scale st) age clock → (ms : List Transition) →
-      (es : List Edge) → All (EdgeLaw (station_scale st) (length st.phases)) es →
-      All (λ t. transition_fits p v clock t ≡ false) (map (print_edge o (station_scale st) st.phases life) es ++ ms) → All (λ e. edge_fits o life p v age e ≡ false) es
+      (es : List Edge) → AllByRecursion (EdgeLaw (station_scale st) (length st.phases)) es →
+      AllByRecursion (λ t. transition_fits p v clock t ≡ false) (map (print_edge o (station_scale st) st.phases life) es ++ ms) → AllByRecursion (λ e. edge_fits o life p v age e ≡ false) es
   deaf_back life lf p v age clock shows ms [] laws h = tt
   deaf_back life lf p v age clock shows ms (e ∷ es) laws h = (
     fits_same o (station_scale st) st.phases life lf (length st.phases) e laws.0 age clock shows p v ∙ h.0,
@@ -271,10 +271,10 @@ module _ (o : Order) (L : ℕ) (st : Station) (some : 1 ≤ L) (factor : 1 ≤ L
       go : View x y → M.Deaf x p v → P.Deaf y p v
       go (at_rest e at) (inl b) = absurd (omega arith)
       go (at_rest e at) (inr q) =
-          subst (λ l. All (λ t. transition_fits p v y.clock t ≡ false) l.transitions) (sym at)
+          subst (λ l. AllByRecursion (λ t. transition_fits p v y.clock t ≡ false) l.transitions) (sym at)
           (deaf_forward (lifetime_of (phase_at st.phases x.phase)) (law_at x y m).life_fits p v x.age y.clock m.shows (moves_at x y) (moves_deaf p v y.clock y.location (place_of st.phases (next_of (phase_at st.phases x.phase))) (life_ticks (station_scale st) (lifetime_of (phase_at st.phases x.phase))) (words_of (phase_at st.phases x.phase))) (edges_of (phase_at st.phases x.phase)) (law_at x y m).edges_fit q)
       go (at_work j w rest e d at) q =
-          subst (λ l. All (λ t. transition_fits p v y.clock t ≡ false) l.transitions) (sym at)
+          subst (λ l. AllByRecursion (λ t. transition_fits p v y.clock t ≡ false) l.transitions) (sym at)
           (moves_deaf p v y.clock y.location (place_of st.phases (next_of (phase_at st.phases x.phase))) (Some 0) (w ∷ rest))
 
   deaf_suits_back : (y : AutomatonState) (x : ModelState) (p v : ℕ) → Matches st x y → P.Deaf y p v → M.Deaf x p v
@@ -283,7 +283,7 @@ module _ (o : Order) (L : ℕ) (st : Station) (some : 1 ≤ L) (factor : 1 ≤ L
       go : View x y → M.Deaf x p v
       go (at_rest e at) =
           inr (deaf_back (lifetime_of (phase_at st.phases x.phase)) (law_at x y m).life_fits p v x.age y.clock m.shows (moves_at x y) (edges_of (phase_at st.phases x.phase)) (law_at x y m).edges_fit
-          (subst (λ l. All (λ t. transition_fits p v y.clock t ≡ false) l.transitions) at h))
+          (subst (λ l. AllByRecursion (λ t. transition_fits p v y.clock t ≡ false) l.transitions) at h))
       go (at_work j w rest e d at) = inl (omega arith)
 
   bound_reached : (life : Option Fraction) (t clock : Fraction) → life ≡ Some t → at_bound (life_ticks (station_scale st) life) clock ≡ true →

@@ -3,7 +3,7 @@ use Rattle.std.proofs.Common.{◌≡◌, ℕ, zero, suc, ◌+◌, ◌-◌, ◌*�
 use native.Mathlib.Nat.{one-le-mul}
 use Rattle.std.specs.Bool.{then_some}
 use Rattle.std.specs.Option.{option_map}
-use Rattle.std.specs.List.{AllByRecursion as All}
+use Rattle.std.specs.List.{AllByRecursion}
 use Rattle.std.proofs.ByRecursion.{All-get_or}
 use Rattle.std.proofs.lemmas.Bool.{cases_Bool, lt-ltb, le-ltb, ltb-true, or_parts, eqb-false, ltb-false}
 use Rattle.std.proofs.lemmas.Bool.Decides.{nat_tests}
@@ -35,7 +35,7 @@ pub length_from : (i : ℕ) (ms : Meaning) (fs : List ℕ) → length (geared_fr
 length_from i [] fs = refl
 length_from i (m ∷ ms) fs = ap suc (length_from (suc i) ms fs)
 
-stations_from : (i : ℕ) (ms : Meaning) (fs : List ℕ) → All SoundStation ms → All SoundStation (geared_from i ms fs)
+stations_from : (i : ℕ) (ms : Meaning) (fs : List ℕ) → AllByRecursion SoundStation ms → AllByRecursion SoundStation (geared_from i ms fs)
 stations_from i [] fs sound = tt
 stations_from i (m ∷ ms) fs sound =
     let f = wanted fs i in (

@@ -1,6 +1,6 @@
 -- No record breaks a rule exactly if each record keeps it, where the chains of a book are given.
 use Rattle.std.proofs.Common.{◌≡◌, ℕ, false, cond, ltb, ◌↔◌, List, [], None, sym, ap, subst}
-use Rattle.std.specs.List.{ContainsAt as Has, AllByRecursion as All}
+use Rattle.std.specs.List.{ContainsAt as Has, AllByRecursion}
 use Rattle.std.proofs.ByRecursion.{all-has}
 use Rattle.book.specs.Chains.{whole_records, chain_of}
 use Rattle.visits.specs.Smallest.{smallest}
@@ -46,7 +46,7 @@ module _ (b : List ℕ) (c : Chains) (of : ChainsOf b c) (r : Rule) where
         station = all_at_within (StationKeeps b r) (λ i s. r.station i s ≡ false) 0 c.stations (λ i s h x. x.itself) each;
         phase = λ s hs. all_at_within (PhaseKeeps b r s) (λ i p. r.phase s i p ≡ false) 0 (c.phases s) (λ i p h x. x.itself) (of_station s hs);
         edge = λ s hs p hp e he.
-            all-has (λ x. r.edge s p x ≡ false) (c.edges p) e (subst (All (λ x. r.edge s p x ≡ false)) (of.edges_are p) (of_phase s hs p hp).1.edges) he;
+            all-has (λ x. r.edge s p x ≡ false) (c.edges p) e (subst (AllByRecursion (λ x. r.edge s p x ≡ false)) (of.edges_are p) (of_phase s hs p hp).1.edges) he;
         word = λ s hs p hp. subst (AllAt (λ j w. r.word j w ≡ false) 0) (of.words_are p) (of_phase s hs p hp).1.words;
       }
 
@@ -55,7 +55,7 @@ module _ (b : List ℕ) (c : Chains) (of : ChainsOf b c) (r : Rule) where
       let phase-keeps : (s : ℕ) → Has c.stations s → (i p : ℕ) → Has (c.phases s) p → r.phase s i p ≡ false → PhaseKeeps b r s i p =
       λ s hs i p hp own. record {
         itself = own;
-        edges = subst (All (λ x. r.edge s p x ≡ false)) (sym (of.edges_are p)) (all_members (λ x. r.edge s p x ≡ false) (c.edges p) (k.edge s hs p hp));
+        edges = subst (AllByRecursion (λ x. r.edge s p x ≡ false)) (sym (of.edges_are p)) (all_members (λ x. r.edge s p x ≡ false) (c.edges p) (k.edge s hs p hp));
         words = subst (AllAt (λ j w. r.word j w ≡ false) 0) (sym (of.words_are p)) (k.word s hs p hp);
       } in
       let station-keeps : (i s : ℕ) → Has c.stations s → r.station i s ≡ false → StationKeeps b r i s =

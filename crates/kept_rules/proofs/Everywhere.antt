@@ -1,6 +1,6 @@
 -- What holds of every number of a list, with its place there or without, and of lists that are made from it.
 use Rattle.std.proofs.Common.{◌≡◌, ℕ, zero, suc, ◌+◌, ◌<◌, ◌≤◌, false, eqb, ◌⊎◌, ◌↔◌, List, [], ◌∷◌, map, length, sum_by, refl, ap₂, inl, inr, arith}
-use Rattle.std.specs.List.{HoldsAt, ContainsAt as Has, flat_map, AllByRecursion as All}
+use Rattle.std.specs.List.{HoldsAt, ContainsAt as Has, flat_map, AllByRecursion}
 use Rattle.std.proofs.lemmas.List.{length-append}
 use Rattle.std.proofs.lemmas.List.Sums.{sum_by-cons}
 use Rattle.std.proofs.ByRecursion.{All-weaker, all-has, all_has_itself, All-map, has_get_or, has_append_right}
@@ -8,7 +8,7 @@ use Rattle.std.proofs.lemmas.Bool.{eqb-false, ne_eqb}
 use Rattle.kept_rules.specs.Kept.{AllAt}
 
 -- each element by its membership
-pub all_members : {X : Type 0} (P : X → Type 0) (xs : List X) → ((x : X) → Has xs x → P x) → All P xs
+pub all_members : {X : Type 0} (P : X → Type 0) (xs : List X) → ((x : X) → Has xs x → P x) → AllByRecursion P xs
 all_members P xs f = All-weaker (Has xs) P f xs (all_has_itself xs)
 
 pub has_first : {X : Type 0} (x : X) (xs : List X) → Has (x ∷ xs) x
@@ -25,18 +25,18 @@ has_cases y xs x h = go h.0 h.1 h.2
     go (suc k) low at = inr (k, omega arith, at)
 
 -- of a mapped list
-pub all_mapped : {X Y : Type 0} (P : Y → Type 0) (f : X → Y) (xs : List X) → ((x : X) → Has xs x → P (f x)) → All P (map f xs)
+pub all_mapped : {X Y : Type 0} (P : Y → Type 0) (f : X → Y) (xs : List X) → ((x : X) → Has xs x → P (f x)) → AllByRecursion P (map f xs)
 all_mapped P f xs each = All-map P f xs (all_members (λ x. P (f x)) xs each)
 
-all_unmapped : {X Y : Type 0} (P : Y → Type 0) (f : X → Y) (xs : List X) → All P (map f xs) → All (λ x. P (f x)) xs
+all_unmapped : {X Y : Type 0} (P : Y → Type 0) (f : X → Y) (xs : List X) → AllByRecursion P (map f xs) → AllByRecursion (λ x. P (f x)) xs
 all_unmapped P f [] a = tt
 all_unmapped P f (x ∷ xs) a = (a.0, all_unmapped P f xs a.1)
 
-pub mapped_has : {X Y : Type 0} (P : Y → Type 0) (f : X → Y) (xs : List X) → All P (map f xs) → (x : X) → Has xs x → P (f x)
+pub mapped_has : {X Y : Type 0} (P : Y → Type 0) (f : X → Y) (xs : List X) → AllByRecursion P (map f xs) → (x : X) → Has xs x → P (f x)
 mapped_has P f xs a x h = all-has (λ y. P (f y)) xs x (all_unmapped P f xs a) h
 
 -- a joined list of one element for each
-pub one_by_one : {X Y Z : Type 0} (f : X → Z) (g : Y → Z) (h : X → Y) (xs : List X) → All (λ x. f x ≡ g (h x)) xs → flat_map (λ x. f x ∷ []) xs ≡ map g (map h xs)
+pub one_by_one : {X Y Z : Type 0} (f : X → Z) (g : Y → Z) (h : X → Y) (xs : List X) → AllByRecursion (λ x. f x ≡ g (h x)) xs → flat_map (λ x. f x ∷ []) xs ≡ map g (map h xs)
 one_by_one f g h [] same = refl
 one_by_one f g h (x ∷ xs) same = ap₂ ◌∷◌ same.0 (one_by_one f g h xs same.1)
 
@@ -52,7 +52,7 @@ sum_joined f g h few (x ∷ xs) =
 pub all_at_has : (P : ℕ → ℕ → Type 0) (i : ℕ) (ks : List ℕ) → AllAt P i ks → (k : ℕ) → Has ks k → (j : ℕ) × P j k
 all_at_has P i ks a k h = all-has (λ x. (j : ℕ) × P j x) ks k (go i ks a) h
   where
-    go : (i : ℕ) (ks : List ℕ) → AllAt P i ks → All (λ x. (j : ℕ) × P j x) ks
+    go : (i : ℕ) (ks : List ℕ) → AllAt P i ks → AllByRecursion (λ x. (j : ℕ) × P j x) ks
     go i [] a = tt
     go i (k ∷ ks) a = ((i, a.0), go (suc i) ks a.1)
 

@@ -1,6 +1,6 @@
 -- A list of faults is empty exactly if each record keeps the rule.
 use Rattle.std.proofs.Common.{◌≡◌, ℕ, suc, Bool, true, false, ◌↔◌, List, [], ◌∷◌, ◌++◌, None, refl, ap, ◌∙◌, subst, arith}
-use Rattle.std.specs.List.{AllByRecursion as All}
+use Rattle.std.specs.List.{AllByRecursion}
 use Rattle.visits.specs.Smallest.{smallest, only_if, along, IsSmallest}
 use Rattle.visits.specs.Visits.{Rule, faults, station_faults, phase_faults, edge_faults, word_faults, stations, phases, edges, words}
 use Rattle.visits.proofs.Least.{smallest_is_smallest}
@@ -31,7 +31,7 @@ along_none f P each i (k ∷ ks) =
     )
 
 -- what is asked for whatever the place
-pub all_at_all : (P : ℕ → Type 0) (i : ℕ) (ks : List ℕ) → AllAt (λ _ k. P k) i ks ↔ All P ks
+pub all_at_all : (P : ℕ → Type 0) (i : ℕ) (ks : List ℕ) → AllAt (λ _ k. P k) i ks ↔ AllByRecursion P ks
 all_at_all P i [] = (λ a. tt, λ a. tt)
 all_at_all P i (k ∷ ks) = let rest = all_at_all P (suc i) ks in (λ a. (a.0, rest.0 a.1), λ a. (a.0, rest.1 a.1))
 
@@ -39,7 +39,7 @@ all_at_all P i (k ∷ ks) = let rest = all_at_all P (suc i) ks in (λ a. (a.0, r
 pub along_test_at : (t : ℕ → ℕ → Bool) (i : ℕ) (ks : List ℕ) → along (λ j k. only_if (t j k) k) i ks ≡ [] ↔ AllAt (λ j k. t j k ≡ false) i ks
 along_test_at t = along_none (λ j k. only_if (t j k) k) (λ j k. t j k ≡ false) (λ j k. only_if_none (t j k) k)
 
-pub along_test : (t : ℕ → Bool) (i : ℕ) (ks : List ℕ) → along (λ _ k. only_if (t k) k) i ks ≡ [] ↔ All (λ k. t k ≡ false) ks
+pub along_test : (t : ℕ → Bool) (i : ℕ) (ks : List ℕ) → along (λ _ k. only_if (t k) k) i ks ≡ [] ↔ AllByRecursion (λ k. t k ≡ false) ks
 along_test t i ks =
     let at = along_test_at (λ _ k. t k) i ks in
     let all = all_at_all (λ k. t k ≡ false) i ks in

@@ -1,6 +1,6 @@
 -- What it is that no record of a book breaks a rule.
 use Rattle.std.specs.Prelude.{◌≡◌, ℕ, suc, false, ◌↔◌, List, [], ◌∷◌, None}
-use Rattle.std.specs.List.{AllByRecursion as All}
+use Rattle.std.specs.List.{AllByRecursion}
 use Rattle.visits.specs.Smallest.{smallest}
 use Rattle.visits.specs.Visits.{Rule, faults, stations, phases, edges, words}
 
@@ -13,7 +13,7 @@ AllAt P i (k ∷ ks) = P i k × AllAt P (suc i) ks
 module _ (b : List ℕ) (r : Rule) where
   pub record PhaseKeeps (s i p : ℕ) : Type 0 where
     pub itself : r.phase s i p ≡ false
-    pub edges : All (λ e. r.edge s p e ≡ false) (edges b p)
+    pub edges : AllByRecursion (λ e. r.edge s p e ≡ false) (edges b p)
     pub words : AllAt (λ j w. r.word j w ≡ false) 0 (words b p)
 
   pub record StationKeeps (i s : ℕ) : Type 0 where

@@ -1,6 +1,6 @@
 -- Lists of which the last element has one thing, and every other has another.
 use Rattle.std.proofs.Common.{◌≡◌, ℕ, suc, ◌+◌, true, false, not, ◌||◌, eqb, ◌↔◌, List, [], ◌∷◌, ◌++◌, map, length, sym, refl, ap, ◌∙◌, subst, arith}
-use Rattle.std.specs.List.{ContainsAt as Has, AllByRecursion as All}
+use Rattle.std.specs.List.{ContainsAt as Has, AllByRecursion}
 use Rattle.std.proofs.lemmas.Bool.{both_ways, or_parts, or_from, not-false, not_from_true, eq-eqb, ne_eqb}
 use Rattle.chains.specs.Some.{some_at}
 use Rattle.automaton_moves.specs.Rules.{hears_at, same, misplaced}
@@ -17,7 +17,7 @@ module _ {X : Type 0} (H M : X → Type 0) where
 
   -- the list is some elements and the last
   abbrev pub Split : List X → Type 0
-  Split xs = (hs : List X) × ((t : X) × ((xs ≡ hs ++ (t ∷ [])) × (All H hs × M t)))
+  Split xs = (hs : List X) × ((t : X) × ((xs ≡ hs ++ (t ∷ [])) × (AllByRecursion H hs × M t)))
 
   split_from : (x : X) (xs : List X) → EndsFrom x xs → Split (x ∷ xs)
   split_from x [] e = ([], (x, (refl, (tt, e))))
@@ -29,7 +29,7 @@ module _ {X : Type 0} (H M : X → Type 0) where
   one_more x [] h e = absurd e
   one_more x (y ∷ ys) h e = (h, e)
 
-  join : (hs : List X) (t : X) → All H hs → M t → Ends (hs ++ (t ∷ []))
+  join : (hs : List X) (t : X) → AllByRecursion H hs → M t → Ends (hs ++ (t ∷ []))
   join [] t all last = last
   join (h ∷ hs) t all last = one_more h (hs ++ (t ∷ [])) all.0 (join hs t all.1 last)
 
@@ -38,12 +38,12 @@ module _ {X : Type 0} (H M : X → Type 0) where
   ends_split (x ∷ xs) = (split_from x xs, λ s. subst Ends (sym s.1.1.0) (join s.0 s.1.0 s.1.1.1.0 s.1.1.1.1))
 
   -- what either gives, each element has
-  each_from : (P : X → Type 0) (x : X) (xs : List X) → ((y : X) → Has (x ∷ xs) y → H y → P y) → ((y : X) → Has (x ∷ xs) y → M y → P y) → EndsFrom x xs → All P (x ∷ xs)
+  each_from : (P : X → Type 0) (x : X) (xs : List X) → ((y : X) → Has (x ∷ xs) y → H y → P y) → ((y : X) → Has (x ∷ xs) y → M y → P y) → EndsFrom x xs → AllByRecursion P (x ∷ xs)
   each_from P x [] f g e = (g x (has_first x []) e, tt)
   each_from P x (y ∷ ys) f g e =
       (f x (has_first x (y ∷ ys)) e.0, each_from P y ys (λ z h. f z (has_later x (y ∷ ys) z h)) (λ z h. g z (has_later x (y ∷ ys) z h)) e.1)
 
-  pub ends_each : (P : X → Type 0) (xs : List X) → ((y : X) → Has xs y → H y → P y) → ((y : X) → Has xs y → M y → P y) → Ends xs → All P xs
+  pub ends_each : (P : X → Type 0) (xs : List X) → ((y : X) → Has xs y → H y → P y) → ((y : X) → Has xs y → M y → P y) → Ends xs → AllByRecursion P xs
   ends_each P [] f g e = tt
   ends_each P (x ∷ xs) f g e = each_from P x xs f g e
 

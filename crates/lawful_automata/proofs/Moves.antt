@@ -1,6 +1,6 @@
 -- Locations: marks, moves and resets are right by the book's records exactly if they are lawful in the tree.
 use Rattle.std.proofs.Common.{◌≡◌, ℕ, ◌<◌, Bool, true, false, cond, not, ◌&&◌, ◌||◌, eqb, ltb, ◌↔◌, List, map, length, is_some, Some, None, Option, unwrap_or, sym, refl, ap, ◌∙◌, subst, arith}
-use Rattle.std.specs.List.{ContainsAt as Has, AllByRecursion as All}
+use Rattle.std.specs.List.{ContainsAt as Has, AllByRecursion}
 use Rattle.std.proofs.ByRecursion.{all-has}
 use Rattle.std.proofs.lemmas.Bool.{both_ways, or_parts, or_from, and_parts, and_from, not-true, not-false, not_from_true, not_from_false, eqb-true, eq-eqb}
 use Rattle.book.specs.Chains.{whole_records}
@@ -113,7 +113,7 @@ module _ (b : List ℕ) (a l : ℕ) where
     pub record MovesLawfully (committed : Bool) (bound : Option ℕ) : Type 0 where
       pub not_both : committed ≡ true → bound ≡ None
       pub moves_fit : LawfulMoves tree committed bound (map reading ts)
-      pub hearing_resets : All (λ t. is_move t.label ≡ false → t.resets ≡ true) (map reading ts)
+      pub hearing_resets : AllByRecursion (λ t. is_move t.label ≡ false → t.resets ≡ true) (map reading ts)
 
     -- its test
     abbrev wrongly : Bool → Option ℕ → Bool
@@ -128,11 +128,11 @@ module _ (b : List ℕ) (a l : ℕ) where
     each_right : some (wrong_transition_at b l) ts ≡ false ↔ EachRight
     each_right = some_none (wrong_transition_at b l) ts
 
-    resets : EachRight → All (λ t. is_move t.label ≡ false → t.resets ≡ true) (map reading ts)
+    resets : EachRight → AllByRecursion (λ t. is_move t.label ≡ false → t.resets ≡ true) (map reading ts)
     resets w = all_mapped (λ t. is_move t.label ≡ false → t.resets ≡ true) reading ts (λ t ht e. (hearing_right t ((is_hearing t).0 e)).0 (w t ht))
 
     -- a hearing transition that resets is right
-    reset_right : All (λ t. is_move t.label ≡ false → t.resets ≡ true) (map reading ts) → (t : ℕ) → Has ts t → is_move (reading t).label ≡ false → wrong_transition_at b l t ≡ false
+    reset_right : AllByRecursion (λ t. is_move t.label ≡ false → t.resets ≡ true) (map reading ts) → (t : ℕ) → Has ts t → is_move (reading t).label ≡ false → wrong_transition_at b l t ≡ false
     reset_right all t ht e =
         (hearing_right t ((is_hearing t).0 e)).1 (mapped_has (λ x. is_move x.label ≡ false → x.resets ≡ true) reading ts all t ht e)
 

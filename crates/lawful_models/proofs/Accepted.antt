@@ -1,6 +1,6 @@
 -- A model book is accepted exactly if its bytes are well formed and its tree is lawful.
 use Rattle.std.proofs.Common.{◌≡◌, ℕ, ◌<◌, ◌≤◌, Bool, true, false, ltb, ◌↔◌, List, [], map, length, None, sym, refl, ap, ◌∙◌, subst, arith}
-use Rattle.std.specs.List.{ContainsAt as Has, AllByRecursion as All}
+use Rattle.std.specs.List.{ContainsAt as Has, AllByRecursion}
 use Rattle.std.proofs.lemmas.List.{length-map}
 use Rattle.std.proofs.ByRecursion.{all-has}
 use Rattle.book.specs.Bytes.{two, row}
@@ -42,7 +42,7 @@ use Rattle.lawful_models.proofs.Phases.{PhaseRight, to_phase, from_phase}
 use Rattle.lawful_models.proofs.Counting.{model_few}
 
 -- the book is right, record by record
-record Book-right (b : List ℕ) (few : ltb 2000 (whole_records b) ≡ false) : Type 0 where
+record BookRight (b : List ℕ) (few : ltb 2000 (whole_records b) ≡ false) : Type 0 where
   goals_right : GoalsRight b few
   limits_right : LimitsRight b
   scales_right : ScalesRight b few
@@ -50,7 +50,7 @@ record Book-right (b : List ℕ) (few : ltb 2000 (whole_records b) ≡ false) : 
   windows_hold : (s : ℕ) → Has (stations_in b) s → (p : ℕ) → Has (phases_in b s) p → (e : ℕ) → Has (edges_in b p) e → WindowHolds (order_in b) (lifetime_at b p) (read_edge b (phases_in b s) e)
   moments_apart : (s : ℕ) → Has (stations_in b) s → (p : ℕ) → Has (phases_in b s) p →
       (q v : ℕ) (t : Fraction) → Proper t → AtMostOne (edge_fits (order_in b) (lifetime_at b p) q v t) (map (read_edge b (phases_in b s)) (edges_in b p))
-  paths_fit : All (LawfulPath (length (stations_in b))) (map (path_at b) (paths_in b))
+  paths_fit : AllByRecursion (LawfulPath (length (stations_in b))) (map (path_at b) (paths_in b))
 
 module _ (b : List ℕ) (bytes : Bytes b) (few : ltb 2000 (whole_records b) ≡ false) (tree : TreeOf b Model) where
   kept : (r : Rule) → first_fault b r ≡ None ↔ Kept (model_chains b) r
@@ -72,7 +72,7 @@ module _ (b : List ℕ) (bytes : Bytes b) (few : ltb 2000 (whole_records b) ≡ 
     moments_kept =
         edges_apart (order_in b) (lifetime_at b p) b (phases_in b s) (edges_in b p) life_proper ends_proper (edges b p) (followed_is b few (two (row b p) 4)) (edges_different b Model tree s hs p hp)
 
-  stages_right : NothingIn (findings b Model) ↔ Book-right b few
+  stages_right : NothingIn (findings b Model) ↔ BookRight b few
   stages_right = (
     λ st.
         let limits_right = (limits_kept b).0 ((kept (limits b)).0 st.no_limits) in
@@ -101,9 +101,9 @@ module _ (b : List ℕ) (bytes : Bytes b) (few : ltb 2000 (whole_records b) ≡ 
   )
 
   abbrev AllRest : Type 0
-  AllRest = All (λ s. All (Rests b) (phases_in b s)) (stations_in b)
+  AllRest = AllByRecursion (λ s. AllByRecursion (Rests b) (phases_in b s)) (stations_in b)
 
-  to_station : Book-right b few → (s : ℕ) → Has (stations_in b) s → LawfulStation (order_in b) (tree_station b s)
+  to_station : BookRight b few → (s : ℕ) → Has (stations_in b) s → LawfulStation (order_in b) (tree_station b s)
   to_station r s hs =
       let ps = phases_in b s in
       let count : length ps ≡ length (map (tree_phase b ps) ps) = sym (length-map ps (tree_phase b ps)) in
@@ -113,7 +113,7 @@ module _ (b : List ℕ) (bytes : Bytes b) (few : ltb 2000 (whole_records b) ≡ 
         opening_here = subst (λ n. place_in ps (station_at b s).opening < n) count (g.opening s hs);
         few_phases = subst (λ n. n ≤ 200) count (l.phases_few s hs);
         scale_fits = r.scales_right s hs;
-        phases_fit = subst (λ n. All (LawfulPhase (order_in b) n) (map (tree_phase b ps) ps)) count
+        phases_fit = subst (λ n. AllByRecursion (LawfulPhase (order_in b) n) (map (tree_phase b ps) ps)) count
             (all_mapped (LawfulPhase (order_in b) (length ps)) (tree_phase b ps) ps (λ p hp. to_phase (order_in b) b ps p bytes (record {
               life = l.life s hs p hp;
               next = g.next s hs p hp;
@@ -128,7 +128,7 @@ module _ (b : List ℕ) (bytes : Bytes b) (few : ltb 2000 (whole_records b) ≡ 
   from_station : (s : ℕ) → LawfulStation (order_in b) (tree_station b s) → (p : ℕ) → Has (phases_in b s) p → PhaseRight (order_in b) b (phases_in b s) p
   from_station s h p hp =
       let ps = phases_in b s in
-      let all = subst (λ n. All (LawfulPhase (order_in b) n) (map (tree_phase b ps) ps)) (length-map ps (tree_phase b ps)) h.phases_fit in
+      let all = subst (λ n. AllByRecursion (LawfulPhase (order_in b) n) (map (tree_phase b ps) ps)) (length-map ps (tree_phase b ps)) h.phases_fit in
       from_phase (order_in b) b ps p (mapped_has (LawfulPhase (order_in b) (length ps)) (tree_phase b ps) ps all p hp)
 
   -- an endless phase at rest has no words, and any other has few
@@ -142,25 +142,25 @@ module _ (b : List ℕ) (bytes : Bytes b) (few : ltb 2000 (whole_records b) ≡ 
           subst (λ ws. length ws ≤ 4) (sym none) (omega arith)
       go false is = lasts is
 
-  right_lawful : told_records b ≤ 1000 → Book-right b few ↔ AllRest × LawfulModel (tree_model b)
+  right_lawful : told_records b ≤ 1000 → BookRight b few ↔ AllRest × LawfulModel (tree_model b)
   right_lawful records =
       let ss = stations_in b in
       let count : length ss ≡ length (map (tree_station b) ss) = sym (length-map ss (tree_station b)) in (
         λ r. (
-          all_members (λ s. All (Rests b) (phases_in b s)) ss (λ s hs. all_members (Rests b) (phases_in b s) (r.goals_right.rests s hs)),
+          all_members (λ s. AllByRecursion (Rests b) (phases_in b s)) ss (λ s hs. all_members (Rests b) (phases_in b s) (r.goals_right.rests s hs)),
           record {
             some_station = subst (λ n. 1 ≤ n) count (some_station (of_station Model b) (path_at b) ss (paths_in b) tree.some r.paths_fit);
             few_stations = subst (λ n. n ≤ 16) count r.limits_right.stations_few;
             scale_fits = r.net_fits;
             stations_fit = all_mapped (LawfulStation (order_in b)) (tree_station b) ss (to_station r);
-            paths_fit = subst (λ n. All (LawfulPath n) (map (path_at b) (paths_in b))) count r.paths_fit;
+            paths_fit = subst (λ n. AllByRecursion (LawfulPath n) (map (path_at b) (paths_in b))) count r.paths_fit;
             few_records = omega (arith, model_few b, tree.few);
           },
         ),
         λ h.
             let m = h.1 in
             let rests : (s : ℕ) → Has ss s → (p : ℕ) → Has (phases_in b s) p → Rests b p =
-            λ s hs p hp. all-has (Rests b) (phases_in b s) p (all-has (λ x. All (Rests b) (phases_in b x)) ss s h.0 hs) hp in
+            λ s hs p hp. all-has (Rests b) (phases_in b s) p (all-has (λ x. AllByRecursion (Rests b) (phases_in b x)) ss s h.0 hs) hp in
             let station : (s : ℕ) → Has ss s → LawfulStation (order_in b) (tree_station b s) = mapped_has (LawfulStation (order_in b)) (tree_station b) ss m.stations_fit in
             let phase : (s : ℕ) → Has ss s → (p : ℕ) → Has (phases_in b s) p → PhaseRight (order_in b) b (phases_in b s) p = λ s hs. from_station s (station s hs) in
             record {
@@ -181,7 +181,7 @@ module _ (b : List ℕ) (bytes : Bytes b) (few : ltb 2000 (whole_records b) ≡ 
               net_fits = m.scale_fits;
               windows_hold = λ s hs p hp. (phase s hs p hp).window;
               moments_apart = λ s hs p hp. (phase s hs p hp).apart;
-              paths_fit = subst (λ n. All (LawfulPath n) (map (path_at b) (paths_in b))) (sym count) m.paths_fit;
+              paths_fit = subst (λ n. AllByRecursion (LawfulPath n) (map (path_at b) (paths_in b))) (sym count) m.paths_fit;
             },
       )
 
@@ -196,8 +196,8 @@ accepted_models_are_lawful b bytes = (
       (accepted b Model).1 (sound, (stages sound).1 ((lawful sound).1 (h.0.rests, subst LawfulModel (same_model b) h.1))),
 )
   where
-    stages : (sound : Sound b Model) → NothingIn (findings b Model) ↔ Book-right b (short b Model sound)
+    stages : (sound : Sound b Model) → NothingIn (findings b Model) ↔ BookRight b (short b Model sound)
     stages sound = stages_right b bytes (short b Model sound) (trees_have_different_records b Model sound)
 
-    lawful : (sound : Sound b Model) → Book-right b (short b Model sound) ↔ All (λ s. All (Rests b) (phases_in b s)) (stations_in b) × LawfulModel (tree_model b)
+    lawful : (sound : Sound b Model) → BookRight b (short b Model sound) ↔ AllByRecursion (λ s. AllByRecursion (Rests b) (phases_in b s)) (stations_in b) × LawfulModel (tree_model b)
     lawful sound = right_lawful b bytes (short b Model sound) (trees_have_different_records b Model sound) sound.few_records

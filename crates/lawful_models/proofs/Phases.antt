@@ -1,6 +1,6 @@
 -- A phase of the tree is lawful exactly if its record, its words and its edges are right.
 use Rattle.std.proofs.Common.{◌≡◌, ℕ, ◌<◌, ◌≤◌, Bool, true, false, cond, List, map, length, Some, None, Option, sym, refl, subst, arith}
-use Rattle.std.specs.List.{ContainsAt as Has, AllByRecursion as All}
+use Rattle.std.specs.List.{ContainsAt as Has, AllByRecursion}
 use Rattle.std.proofs.lemmas.List.{length-map}
 use Rattle.std.proofs.lemmas.Bool.{both_ways}
 use Rattle.book.specs.declared.term.BookKind.TheVariants.{Model}
@@ -35,8 +35,8 @@ module _ (o : Order) (n : ℕ) (l : Fraction) (ws : List Word) (next : ℕ) (es 
   abbrev life_by : Bool → Option Fraction
   life_by t = cond t None (Some l)
 
-  build : (t : Bool) → SmallLife (life_by t) → (t ≡ false → next < n) → (t ≡ false → length ws ≤ 4) → All LawfulWord ws → All (LawfulEdge n) es →
-      All (WindowHolds o (life_by t)) es → ((q v : ℕ) (x : Fraction) → Proper x → AtMostOne (edge_fits o (life_by t) q v x) es) → LawfulPhase o n (either t)
+  build : (t : Bool) → SmallLife (life_by t) → (t ≡ false → next < n) → (t ≡ false → length ws ≤ 4) → AllByRecursion LawfulWord ws → AllByRecursion (LawfulEdge n) es →
+      AllByRecursion (WindowHolds o (life_by t)) es → ((q v : ℕ) (x : Fraction) → Proper x → AtMostOne (edge_fits o (life_by t) q v x) es) → LawfulPhase o n (either t)
   build true life here few words edges windows apart = record {
     life_fits = tt;
     next_here = tt;
@@ -68,11 +68,11 @@ module _ (o : Order) (n : ℕ) (l : Fraction) (ws : List Word) (next : ℕ) (es 
   few_of true h e = absurd (both_ways true e refl)
   few_of false h e = h.few_words
 
-  edges_fit_of : (t : Bool) → LawfulPhase o n (either t) → All (LawfulEdge n) es
+  edges_fit_of : (t : Bool) → LawfulPhase o n (either t) → AllByRecursion (LawfulEdge n) es
   edges_fit_of true h = h.edges_fit
   edges_fit_of false h = h.edges_fit
 
-  windows_of : (t : Bool) → LawfulPhase o n (either t) → All (WindowHolds o (life_by t)) es
+  windows_of : (t : Bool) → LawfulPhase o n (either t) → AllByRecursion (WindowHolds o (life_by t)) es
   windows_of true h = h.windows_hold
   windows_of false h = h.windows_hold
 

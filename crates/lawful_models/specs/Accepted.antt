@@ -1,6 +1,6 @@
 -- Which model books are accepted.
 use Rattle.std.specs.Prelude.{◌≡◌, ℕ, true, ◌↔◌, List, Ok}
-use Rattle.std.specs.List.{AllByRecursion as All}
+use Rattle.std.specs.List.{AllByRecursion}
 use Rattle.book.specs.declared.term.BookKind.TheVariants.{Model}
 use Rattle.records.specs.Fits.{Bytes}
 use Rattle.structure.specs.Sound.{Sound}
@@ -18,7 +18,7 @@ pub record Rests (b : List ℕ) (p : ℕ) : Type 0 where
 -- the bytes of a model book are well formed: the structure is right, and endless phases rest
 pub record WellFormed (b : List ℕ) : Type 0 where
   pub sound : Sound b Model
-  pub rests : All (λ s. All (Rests b) (phases_in b s)) (stations_in b)
+  pub rests : AllByRecursion (λ s. AllByRecursion (Rests b) (phases_in b s)) (stations_in b)
 
 -- A model book is accepted exactly if its bytes are well formed and its tree is lawful.
 abbrev pub AcceptedModelsAreLawful : Type 0

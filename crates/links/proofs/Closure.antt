@@ -1,6 +1,6 @@
 -- The records that are met are those that are reached, and no set with the head that is closed under naming lacks one.
 use Rattle.std.proofs.Common.{◌≡◌, ℕ, zero, suc, ◌+◌, ◌<◌, ◌≤◌, Bool, true, false, cond, ◌||◌, eqb, ltb, List, [], ◌∷◌, ◌++◌, length, get_or, sym, refl, ap, ◌∙◌, subst, inl, inr, ⊎_elim, append_assoc, append-nil, arith}
-use Rattle.std.specs.List.{AllByRecursion as All}
+use Rattle.std.specs.List.{AllByRecursion}
 use Rattle.std.proofs.lemmas.List.{get_or_append_left}
 use Rattle.std.proofs.ByRecursion.{All-push, All-get_or}
 use Rattle.std.proofs.lemmas.Bool.{or_parts, or_cases, or_right, eqb-false, eq-eqb, ne_eqb, le-ltb, ltb-false, both_ways, cases_eq, cases_lt}
@@ -112,21 +112,21 @@ module _ (links : ℕ → List Link) (n : ℕ) where
   reached_in has c i head = c.head_in
   reached_in has c i (named {i = h} r names low high) = c.named_in h i (reached_in has c h r) names low high
 
-  all_sound : (ls : List Link) (s : List ℕ) → All (Reached links n) s → ((j : ℕ) → Names ls j → 1 ≤ j → j ≤ n → Reached links n j) → All (Reached links n) (met_all n s ls)
+  all_sound : (ls : List Link) (s : List ℕ) → AllByRecursion (Reached links n) s → ((j : ℕ) → Names ls j → 1 ≤ j → j ≤ n → Reached links n j) → AllByRecursion (Reached links n) (met_all n s ls)
   all_sound [] s a r = a
   all_sound (l ∷ ls) s a r =
       all_sound ls (met n s l.to)
-      (met_cases n s l.to (All (Reached links n)) (λ _. a) (λ low high _. All-push (Reached links n) s l.to a (r l.to (inl refl) low high)))
+      (met_cases n s l.to (AllByRecursion (Reached links n)) (λ _. a) (λ low high _. All-push (Reached links n) s l.to a (r l.to (inl refl) low high)))
       (λ j names. r j (inr names))
 
-  spread_sound : (k p : ℕ) (s : List ℕ) → All (Reached links n) s → All (Reached links n) (spread links n k p s)
+  spread_sound : (k p : ℕ) (s : List ℕ) → AllByRecursion (Reached links n) s → AllByRecursion (Reached links n) (spread links n k p s)
   spread_sound zero p s a = a
   spread_sound (suc k) p s a =
       ⊎_elim
       (λ (inside : p < length s).
-      subst (All (Reached links n)) (sym (spread_more links n k p s inside))
+      subst (AllByRecursion (Reached links n)) (sym (spread_more links n k p s inside))
       (spread_sound k (p + 1) _ (all_sound (links (get_or s p 0)) s a (λ j names low high. named (All-get_or (Reached links n) s p 0 inside a) names low high))))
-      (λ (outside : length s ≤ p). subst (All (Reached links n)) (sym (spread_done links n (suc k) p s outside)) a)
+      (λ (outside : length s ≤ p). subst (AllByRecursion (Reached links n)) (sym (spread_done links n (suc k) p s outside)) a)
       (cases_lt p (length s))
 
   sound : (i : ℕ) → member i (reached links n) ≡ true → Reached links n i

@@ -1,7 +1,7 @@
 -- Members of lists of numbers, and how many different numbers up to n there can be.
 use Rattle.std.proofs.Common.{◌≡◌, ℕ, zero, suc, ◌+◌, ◌<◌, ◌≤◌, Bool, true, false, cond, ◌||◌, eqb, List, [], ◌∷◌, ◌++◌, length, get_or, set, replicate, count_by, sym, refl, ap, ◌∙◌, ⊎_elim, arith, length-set}
 use lib.ListN.{length-replicate, get_or-replicate}
-use Rattle.std.specs.List.{AllByRecursion as All}
+use Rattle.std.specs.List.{AllByRecursion}
 use Rattle.std.proofs.lemmas.List.{get_or-set_other, length_push}
 use Rattle.std.proofs.ByRecursion.{All-push, All-weaker}
 use Rattle.std.proofs.lemmas.List.Sums.{sum_by-set, count_by-le-length}
@@ -34,7 +34,7 @@ place x (y ∷ xs) e =
     (λ h. let p = place x xs h in (suc p.0, omega (arith, p.1), p.2))
     (or_cases (eqb y x) (member x xs) e)
 
-both : {P Q : ℕ → Type 0} (R : ℕ → Type 0) (xs : List ℕ) → ((x : ℕ) → P x → Q x → R x) → All P xs → All Q xs → All R xs
+both : {P Q : ℕ → Type 0} (R : ℕ → Type 0) (xs : List ℕ) → ((x : ℕ) → P x → Q x → R x) → AllByRecursion P xs → AllByRecursion Q xs → AllByRecursion R xs
 both R [] f p q = tt
 both R (x ∷ xs) f p q = (f x p.0 q.0, both R xs f p.1 q.1)
 
@@ -42,7 +42,7 @@ abbrev taken : ℕ → Bool
 taken v = eqb v 1
 
 -- each of the different numbers takes a free slot of its own
-slots_taken : (xs m : List ℕ) → Distinct xs → All (λ x. x < length m) xs → All (λ x. get_or m x 0 ≡ 0) xs → length xs + count_by taken m ≤ length m
+slots_taken : (xs m : List ℕ) → Distinct xs → AllByRecursion (λ x. x < length m) xs → AllByRecursion (λ x. get_or m x 0 ≡ 0) xs → length xs + count_by taken m ≤ length m
 slots_taken [] m d low free = omega (arith, count_by-le-length taken m)
 slots_taken (x ∷ xs) m d low free =
     let m' : List ℕ = set m x 1 in

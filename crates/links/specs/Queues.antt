@@ -1,16 +1,16 @@
 -- The queue of the search for what is reached: a list of numbers, in its first slots the records
 -- that were met, and a mark for each record. Only the search's own functions speak of it.
 use Rattle.std.specs.Prelude.{◌≡◌, ℕ, ◌+◌, ◌<◌, ◌≤◌, Bool, false, List, [], ◌∷◌, length, take, drop, ◌≢◌, slice_index_or}
-use Rattle.std.specs.List.{AllByRecursion as All}
+use Rattle.std.specs.List.{AllByRecursion}
 use Rattle.links.specs.Naming.{member}
 
 -- different numbers, none past n
 abbrev pub Distinct : List ℕ → Type 0
 Distinct [] = Unit {0}
-Distinct (x ∷ xs) = All (λ y. y ≢ x) xs × Distinct xs
+Distinct (x ∷ xs) = AllByRecursion (λ y. y ≢ x) xs × Distinct xs
 
 pub record Apart (n : ℕ) (xs : List ℕ) : Type 0 where
-  pub low : All (λ x. x < n + 1) xs
+  pub low : AllByRecursion (λ x. x < n + 1) xs
   pub distinct : Distinct xs
 
 -- a queue of `count` records, with room for all of a book's, and marks that tell which are in it

@@ -7,7 +7,7 @@ use Rattle.records.specs.Fits.{Bytes}
 use Rattle.fields.specs.Fields.{station_at}
 use Rattle.semantics.specs.Times.{fraction}
 use Rattle.semantics.specs.Trees.{Phase, blank_phase, lifetime_of, edges_of}
-use Rattle.semantics.specs.Books.{read-order, read_model}
+use Rattle.semantics.specs.Books.{read_order, read_model}
 use Rattle.semantics.specs.Scales.{scale_of}
 use Rattle.semantics.specs.Fits.{edge_fits, first}
 use Rattle.semantics.specs.Machine.{Stance, StationMeaning, Meaning, meaning_at}
@@ -47,7 +47,7 @@ module _ (b : List ℕ) (bytes : Bytes b) (accepted : accepts b Model ≡ true) 
     place_low = let h = station_there in let few = few_stations b bytes accepted in omega arith
 
     abbrev own : StationMeaning
-    own = station_meaning (read-order b) (station_tree b i)
+    own = station_meaning (read_order b) (station_tree b i)
 
     own_is : meaning_at ms i ≡ own
     own_is = meaning_read b i station_there
@@ -93,22 +93,22 @@ module _ (b : List ℕ) (bytes : Bytes b) (accepted : accepts b Model ≡ true) 
           phase_is : get_or (station_tree b i).phases (phase_of s) blank_phase ≡ phase_tree b i f
           phase_is = phase_read b i (phase_of s) blank_phase known_here.there ∙ ap (phase_tree b i) (sym known_here.is)
 
-          quiet_is : sent_of s ≡ 0 → own.stance s ≡ quiet_stance (read-order b) (get_or scales i 0) (phase_of s) (phase_tree b i f)
+          quiet_is : sent_of s ≡ 0 → own.stance s ≡ quiet_stance (read_order b) (get_or scales i 0) (phase_of s) (phase_tree b i f)
           quiet_is z =
-              ap (model_stance (read-order b) own.scale (station_tree b i).phases (phase_of s)) z
-              ∙ ap₂ (λ n x. quiet_stance (read-order b) n (phase_of s) x) (sym scale_is) phase_is
+              ap (model_stance (read_order b) own.scale (station_tree b i).phases (phase_of s)) z
+              ∙ ap₂ (λ n x. quiet_stance (read_order b) n (phase_of s) x) (sym scale_is) phase_is
 
           busy_is : (sent_of s ≡ 0 → ⊥) → own.stance s ≡ busy_stance (phase_of s) (sent_of s) (phase_tree b i f)
           busy_is z = go (sent_of s) refl
             where
-              go : (m : ℕ) → sent_of s ≡ m → model_stance (read-order b) own.scale (station_tree b i).phases (phase_of s) m ≡ busy_stance (phase_of s) m (phase_tree b i f)
+              go : (m : ℕ) → sent_of s ≡ m → model_stance (read_order b) own.scale (station_tree b i).phases (phase_of s) m ≡ busy_stance (phase_of s) m (phase_tree b i f)
               go zero h = absurd (z h)
               go (suc m) h = ap (busy_stance (phase_of s) (suc m)) phase_is
 
           stance_told : {X : Type 0} (what : Stance → X) (x : Stance) → own.stance s ≡ x → Some (what x) ≡ ask_stance ms k s what
           stance_told what x is = ap (λ y. Some (what y)) (sym is) ∙ sym (ap (λ y. then_some y (what (own.stance s))) known_here.known) ∙ asked_stance what
 
-          pub quiet_answer : {X : Type 0} (what : Stance → X) → sent_of s ≡ 0 → Some (what (quiet_stance (read-order b) (get_or scales i 0) (phase_of s) (phase_tree b i f))) ≡ ask_stance ms k s what
+          pub quiet_answer : {X : Type 0} (what : Stance → X) → sent_of s ≡ 0 → Some (what (quiet_stance (read_order b) (get_or scales i 0) (phase_of s) (phase_tree b i f))) ≡ ask_stance ms k s what
           quiet_answer what z = stance_told what _ (quiet_is z)
 
           pub busy_answer : {X : Type 0} (what : Stance → X) → (sent_of s ≡ 0 → ⊥) → Some (what (busy_stance (phase_of s) (sent_of s) (phase_tree b i f))) ≡ ask_stance ms k s what
@@ -137,9 +137,9 @@ module _ (b : List ℕ) (bytes : Bytes b) (accepted : accepts b Model ≡ true) 
             deaf fit z = sym (ap (λ y. then_some y ((busy_stance (phase_of s) (sent_of s) (phase_tree b i f)).hears p v e q)) fit) ∙ hearing_answer _ (busy_is f known z)
 
             pub hearing_told : may ≡ true → sent_of s ≡ 0 → (r : Option ℕ) (d : ℕ) → d ≡ q * get_or scales i 0
-                → r ≡ first (edge_fits (read-order b) (lifetime_of (phase_tree b i f)) p v (fraction e d)) (λ x. stance_number x.goal 0) (edges_of (phase_tree b i f))
+                → r ≡ first (edge_fits (read_order b) (lifetime_of (phase_tree b i f)) p v (fraction e d)) (λ x. stance_number x.goal 0) (edges_of (phase_tree b i f))
                 → Some r ≡ ask_hearing ms k s p v e q
             hearing_told fit z r d ed er =
-                ap Some (er ∙ ap (λ n. first (edge_fits (read-order b) (lifetime_of (phase_tree b i f)) p v (fraction e n)) (λ x. stance_number x.goal 0) (edges_of (phase_tree b i f))) ed)
-                ∙ sym (ap (λ y. then_some y ((quiet_stance (read-order b) (get_or scales i 0) (phase_of s) (phase_tree b i f)).hears p v e q)) fit)
+                ap Some (er ∙ ap (λ n. first (edge_fits (read_order b) (lifetime_of (phase_tree b i f)) p v (fraction e n)) (λ x. stance_number x.goal 0) (edges_of (phase_tree b i f))) ed)
+                ∙ sym (ap (λ y. then_some y ((quiet_stance (read_order b) (get_or scales i 0) (phase_of s) (phase_tree b i f)).hears p v e q)) fit)
                 ∙ hearing_answer _ (quiet_is f known z)

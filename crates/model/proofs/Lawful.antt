@@ -1,6 +1,6 @@
 -- What is known of an accepted model book, at a station and at a phase.
 use Rattle.std.proofs.Common.{◌≡◌, ℕ, ◌<◌, ◌≤◌, true, false, ltb, List, map, length, get_or, sym, refl, ap, ◌∙◌, subst, arith}
-use Rattle.std.specs.List.{AllByRecursion as All}
+use Rattle.std.specs.List.{AllByRecursion}
 use Rattle.std.proofs.ByRecursion.{All-get_or}
 use Rattle.std.proofs.lemmas.List.{length-map, get_or-map}
 use Rattle.book.specs.Chains.{whole_records}
@@ -8,7 +8,7 @@ use Rattle.book.specs.declared.term.BookKind.TheVariants.{Model}
 use Rattle.records.specs.Fits.{Bytes}
 use Rattle.fields.specs.Fields.{station_at, phase_at, edge_at, is_endless}
 use Rattle.semantics.specs.Trees.{lasting, lifetime_of, edges_of, blank_phase, blank_station}
-use Rattle.semantics.specs.Books.{place_in, read-order, read_edge, read_station, read_model}
+use Rattle.semantics.specs.Books.{place_in, read_order, read_edge, read_station, read_model}
 use Rattle.semantics.specs.LawfulModels.{LawfulModel, LawfulStation, LawfulPhase, LawfulEdge, NextHere}
 use Rattle.tree_records.specs.TreeRecords.{stations_in}
 use Rattle.tree_laws.proofs.Records.{short}
@@ -35,11 +35,11 @@ module _ (b : List ℕ) (bytes : Bytes b) (accepted : accepts b Model ≡ true) 
   short_book = short b Model (model_structure b bytes accepted)
 
   module _ (i : ℕ) (h : i < length (stations_in b)) where
-    pub lawful_station : LawfulStation (read-order b) (station_tree b i)
+    pub lawful_station : LawfulStation (read_order b) (station_tree b i)
     lawful_station =
         let n = length-map (stations_in b) (read_station b) in
-        subst (LawfulStation (read-order b)) (get_or-map (read_station b) (stations_in b) i 0 blank_station h)
-        (All-get_or (LawfulStation (read-order b)) (map (read_station b) (stations_in b)) i blank_station (omega arith) lawful.stations_fit)
+        subst (LawfulStation (read_order b)) (get_or-map (read_station b) (stations_in b) i 0 blank_station h)
+        (All-get_or (LawfulStation (read_order b)) (map (read_station b) (stations_in b)) i blank_station (omega arith) lawful.stations_fit)
 
     -- the table has the place of each phase of the station
     pub placed : (t : Places) (k : ℕ) → t ≡ places_of b → place_in (phases_of b i) k < length (phases_of b i) → place_of t k ≡ place_in (phases_of b i) k
@@ -53,15 +53,15 @@ module _ (b : List ℕ) (bytes : Bytes b) (accepted : accepts b Model ≡ true) 
         placed t (station_at b (station_of b i)).opening e (omega arith) ∙ sym o
 
   module _ (i k : ℕ) (p : PhaseOf b i k) where
-    pub lawful_phase : LawfulPhase (read-order b) (length (phases_of b i)) (phase_tree b i k)
+    pub lawful_phase : LawfulPhase (read_order b) (length (phases_of b i)) (phase_tree b i k)
     lawful_phase =
         let st = lawful_station i p.station_there in
         let n = phase_count b i in
         let j = p.place in
-        subst (λ m. LawfulPhase (read-order b) m (phase_tree b i k)) n
-        (subst (LawfulPhase (read-order b) (length (station_tree b i).phases))
+        subst (λ m. LawfulPhase (read_order b) m (phase_tree b i k)) n
+        (subst (LawfulPhase (read_order b) (length (station_tree b i).phases))
         (phase_read b i j blank_phase p.phase_there ∙ ap (phase_tree b i) (sym p.is))
-        (All-get_or (LawfulPhase (read-order b) (length (station_tree b i).phases)) (station_tree b i).phases j blank_phase (let l = p.phase_there in omega arith) st.phases_fit))
+        (All-get_or (LawfulPhase (read_order b) (length (station_tree b i).phases)) (station_tree b i).phases j blank_phase (let l = p.phase_there in omega arith) st.phases_fit))
 
     -- the next phase of one that lasts, and the goals of its edges
     pub next_placed : (t : Places) → t ≡ places_of b → is_endless (phase_at b k).lifetime ≡ false

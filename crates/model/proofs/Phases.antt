@@ -1,7 +1,7 @@
 -- What is told of a phase, and where a word leads from it.
 use Rattle.std.proofs.Common.{◌≡◌, ℕ, suc, ◌+◌, ◌*◌, ◌<◌, Bool, true, false, cond, ◌&&◌, List, [], ◌∷◌, map, length, get_or, drop, Some, None, Option, sym, refl, ap, ◌∙◌, subst, ap₂, arith}
 use Rattle.std.specs.Option.{option_map}
-use Rattle.std.specs.List.{ContainsAt as Has, AllByRecursion as All}
+use Rattle.std.specs.List.{ContainsAt as Has, AllByRecursion}
 use Rattle.std.proofs.lemmas.List.{drop-map}
 use Rattle.book.specs.Chains.{chain_of}
 use Rattle.book.specs.declared.record.Edge.{Edge as EdgeRecord}
@@ -11,7 +11,7 @@ use Rattle.records.specs.Fits.{Bytes}
 use Rattle.fields.specs.Fields.{phase_at, edge_at, lifetime_at, is_endless}
 use Rattle.semantics.specs.Times.{Fraction, Order, inside, counts, itself}
 use Rattle.semantics.specs.Trees.{Phase, Edge, lifetime_of, edges_of}
-use Rattle.semantics.specs.Books.{place_in, read-order, read_word, read_edge}
+use Rattle.semantics.specs.Books.{place_in, read_order, read_word, read_edge}
 use Rattle.semantics.specs.Scales.{ticks}
 use Rattle.semantics.specs.Fits.{word_fits, edge_fits, first}
 use Rattle.semantics.specs.declared.state.Move.{Move}
@@ -76,32 +76,32 @@ module _ (b : List ℕ) (bytes : Bytes b) (accepted : accepts b Model ≡ true) 
   taking o life port value at e = word_fits e.port e.lowest e.highest port value && (inside itself e.window at && counts o life at)
 
   module _ (o : Order) (life : Option Fraction) (f : PhaseRecord) (port value : ℕ) (at : Fraction)
-      (eo : o ≡ read-order b) (el : life ≡ lifetime_at b k) (ef : f ≡ phase_at b k) where
+      (eo : o ≡ read_order b) (el : life ≡ lifetime_at b k) (ef : f ≡ phase_at b k) where
     abbrev ks : List ℕ
     ks = chain_of b (phase_at b k).first_edge
 
     abbrev goal : ℕ → ℕ
     goal e = stance_number (place_in (phases_of b i) (edge_at b e).goal) 0
 
-    all_taking : first (edge_fits (read-order b) (lifetime_of (phase_tree b i k)) port value at) (λ x. stance_number x.goal 0) (edges_of (phase_tree b i k))
+    all_taking : first (edge_fits (read_order b) (lifetime_of (phase_tree b i k)) port value at) (λ x. stance_number x.goal 0) (edges_of (phase_tree b i k))
         ≡ option_map goal (first_at (λ _ e. taking o life port value at (edge_at b e)) 0 (chain_of b f.first_edge))
     all_taking =
-        ap₂ (λ l es. first (edge_fits (read-order b) l port value at) (λ x. stance_number x.goal 0) es) (life_read b (phases_of b i) k) (edges_read b (phases_of b i) k)
-        ∙ first_read (edge_fits (read-order b) (lifetime_at b k) port value at) (λ x. stance_number x.goal 0) (read_edge b (phases_of b i)) 0 ks
+        ap₂ (λ l es. first (edge_fits (read_order b) l port value at) (λ x. stance_number x.goal 0) es) (life_read b (phases_of b i) k) (edges_read b (phases_of b i) k)
+        ∙ first_read (edge_fits (read_order b) (lifetime_at b k) port value at) (λ x. stance_number x.goal 0) (read_edge b (phases_of b i)) 0 ks
         ∙ ap₂ (λ x l. option_map goal (first_at (λ _ e. taking x l port value at (edge_at b e)) 0 ks)) (sym eo) (sym el)
         ∙ ap (λ (x : PhaseRecord). option_map goal (first_at (λ _ e. taking o life port value at (edge_at b e)) 0 (chain_of b x.first_edge))) (sym ef)
 
     pub heard_none : None ≡ first_at (λ _ e. taking o life port value at (edge_at b e)) 0 (chain_of b f.first_edge)
-        → None ≡ first (edge_fits (read-order b) (lifetime_of (phase_tree b i k)) port value at) (λ x. stance_number x.goal 0) (edges_of (phase_tree b i k))
+        → None ≡ first (edge_fits (read_order b) (lifetime_of (phase_tree b i k)) port value at) (λ x. stance_number x.goal 0) (edges_of (phase_tree b i k))
     heard_none none = ap (option_map goal) none ∙ sym all_taking
 
     goal_here : (e : ℕ) → Has ks e → place_in (phases_of b i) (edge_at b e).goal < length (phases_of b i)
     goal_here e h =
         (mapped_has (LawfulEdge (length (phases_of b i))) (read_edge b (phases_of b i)) ks
-        (subst (All (LawfulEdge (length (phases_of b i)))) (edges_read b (phases_of b i) k) (lawful_phase b bytes accepted i k p).edges_fit) e h).goal_here
+        (subst (AllByRecursion (LawfulEdge (length (phases_of b i)))) (edges_read b (phases_of b i) k) (lawful_phase b bytes accepted i k p).edges_fit) e h).goal_here
 
     pub heard_some : (e n : ℕ) → Some e ≡ first_at (λ _ e. taking o life port value at (edge_at b e)) 0 (chain_of b f.first_edge) → n ≡ stance_number (place_of t (edge_at b e).goal) 0
-        → Some n ≡ first (edge_fits (read-order b) (lifetime_of (phase_tree b i k)) port value at) (λ x. stance_number x.goal 0) (edges_of (phase_tree b i k))
+        → Some n ≡ first (edge_fits (read_order b) (lifetime_of (phase_tree b i k)) port value at) (λ x. stance_number x.goal 0) (edges_of (phase_tree b i k))
     heard_some e n some en =
         let chain_is : chain_of b f.first_edge ≡ ks = ap (λ (x : PhaseRecord). chain_of b x.first_edge) ef in
         let found : Some e ≡ first_at (λ _ x. taking o life port value at (edge_at b x)) 0 ks = some ∙ ap (first_at (λ _ x. taking o life port value at (edge_at b x)) 0) chain_is in

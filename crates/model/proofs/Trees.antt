@@ -6,7 +6,7 @@ use Rattle.book.specs.Chains.{chain_of}
 use Rattle.fields.specs.Fields.{station_at, phase_at, lifetime_at, is_endless}
 use Rattle.semantics.specs.Times.{Fraction}
 use Rattle.semantics.specs.Trees.{Edge, Word, Phase, endless, lasting, lifetime_of, words_of, edges_of, next_of, blank_station}
-use Rattle.semantics.specs.Books.{place_in, read-order, read_word, read_edge, read_phase, read_station, read_model}
+use Rattle.semantics.specs.Books.{place_in, read_order, read_word, read_edge, read_phase, read_station, read_model}
 use Rattle.semantics.specs.Machine.{meaning_at, blank_meaning}
 use Rattle.semantics.specs.Meanings.{station_meaning, model_meaning}
 use Rattle.tree_records.specs.TreeRecords.{stations_in, phases_in}
@@ -71,10 +71,10 @@ module _ (b : List ℕ) (i : ℕ) where
 
 -- the meaning
 pub meaning_count : (b : List ℕ) → length (model_meaning (read_model b)) ≡ length (stations_in b)
-meaning_count b = length-map (map (read_station b) (stations_in b)) (station_meaning (read-order b)) ∙ length-map (stations_in b) (read_station b)
+meaning_count b = length-map (map (read_station b) (stations_in b)) (station_meaning (read_order b)) ∙ length-map (stations_in b) (read_station b)
 
-pub meaning_read : (b : List ℕ) (i : ℕ) → i < length (stations_in b) → meaning_at (model_meaning (read_model b)) i ≡ station_meaning (read-order b) (station_tree b i)
+pub meaning_read : (b : List ℕ) (i : ℕ) → i < length (stations_in b) → meaning_at (model_meaning (read_model b)) i ≡ station_meaning (read_order b) (station_tree b i)
 meaning_read b i h =
     let long = length-map (stations_in b) (read_station b) in
-    get_or-map (station_meaning (read-order b)) (map (read_station b) (stations_in b)) i blank_station blank_meaning (omega arith)
-    ∙ ap (station_meaning (read-order b)) (get_or-map (read_station b) (stations_in b) i 0 blank_station h)
+    get_or-map (station_meaning (read_order b)) (map (read_station b) (stations_in b)) i blank_station blank_meaning (omega arith)
+    ∙ ap (station_meaning (read_order b)) (get_or-map (read_station b) (stations_in b) i 0 blank_station h)

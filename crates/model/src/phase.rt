@@ -5,7 +5,7 @@ ghost use Rattle.std.specs.Option.{unwrap_or};
 ghost use Rattle.book.specs.declared.record.Word.{Word as Letter};
 ghost use Rattle.book_scales.specs.Scales.{fitting_scale};
 ghost use Rattle.fields.specs.Fields.{phase_at, edge_at, is_endless};
-ghost use Rattle.semantics.specs.Books.{read_word, read-order};
+ghost use Rattle.semantics.specs.Books.{read_word, read_order};
 ghost use Rattle.semantics.specs.Times.{inside, counts, itself};
 ghost use Rattle.semantics.specs.Trees.{lifetime_of, edges_of};
 ghost use Rattle.semantics.specs.Fits.{word_fits, edge_fits, first};
@@ -128,7 +128,7 @@ impl Model<'_> {
         requires phase { PhaseOf self.now.book.now station k }
         requires low { place < 65535 }
         requires few { station < 16 }
-        ensures { result ≡ told (quiet_stance (read-order self.now.book.now) (slice_index self.now.scales station) place (phase_tree self.now.book.now station k)) }
+        ensures { result ≡ told (quiet_stance (read_order self.now.book.now) (slice_index self.now.scales station) place (phase_tree self.now.book.now station k)) }
     {
         let phase = place as u16 + 1;
         let life = phase_at(self.book, k).lifetime;
@@ -169,7 +169,7 @@ impl Model<'_> {
     // Where the word leads at that moment, from a phase of a station with no word sent.
     pub(crate) fn heard(&self, station: usize, k: u16, word: Word, moment: Moment) -> Option<u32>
         requires phase { PhaseOf self.now.book.now station k }
-        ensures { result ≡ first (edge_fits (read-order self.now.book.now) (lifetime_of (phase_tree self.now.book.now station k)) word.port word.value (time_of moment)) (λ x. stance_number x.goal 0) (edges_of (phase_tree self.now.book.now station k)) }
+        ensures { result ≡ first (edge_fits (read_order self.now.book.now) (lifetime_of (phase_tree self.now.book.now station k)) word.port word.value (time_of moment)) (λ x. stance_number x.goal 0) (edges_of (phase_tree self.now.book.now station k)) }
     {
         let test = Taking {
             order: order_in(self.book),

@@ -1,6 +1,6 @@
 // The calls of a net.
 ghost use Rattle.std.specs.Prelude.{◌≡◌, ◌≤◌, [], length};
-ghost use Rattle.semantics.specs.Calls.{telling, wait as wait-call, word as word-call, step as step_call};
+ghost use Rattle.semantics.specs.Calls.{telling, wait as wait_call, word as word_call, step as step_call};
 ghost use Rattle.calls.specs.Slots.{counted, written};
 ghost use Rattle.net.specs.Nets.{gear_of, net_of, state_of, outcome, done};
 
@@ -37,8 +37,8 @@ impl<M: Machine> Net<M> {
 
     // Lets so many parts pass.
     pub fn wait(&mut self, d: u64) -> Result<(), Refusal>
-        ensures answer { result ≡ done (outcome M.Machine.meaning self.old [] (wait-call d)).answer }
-        ensures state { state_of M.Machine.meaning self.new ≡ (outcome M.Machine.meaning self.old [] (wait-call d)).state }
+        ensures answer { result ≡ done (outcome M.Machine.meaning self.old [] (wait_call d)).answer }
+        ensures state { state_of M.Machine.meaning self.new ≡ (outcome M.Machine.meaning self.old [] (wait_call d)).state }
         ensures net { net_of M.Machine.meaning self.new ≡ net_of M.Machine.meaning self.old }
         ensures machine { gear_of self.new ≡ gear_of self.old }
     {
@@ -75,9 +75,9 @@ impl<M: Machine> Net<M> {
         value: u8,
         events: &mut [Event],
     ) -> Result<usize, Refusal>
-        ensures answer { result ≡ counted (outcome M.Machine.meaning self.old paths.now (word-call port value (length events.old))).answer }
-        ensures slots { events.new ≡ written (outcome M.Machine.meaning self.old paths.now (word-call port value (length events.old))).answer events.old }
-        ensures state { state_of M.Machine.meaning self.new ≡ (outcome M.Machine.meaning self.old paths.now (word-call port value (length events.old))).state }
+        ensures answer { result ≡ counted (outcome M.Machine.meaning self.old paths.now (word_call port value (length events.old))).answer }
+        ensures slots { events.new ≡ written (outcome M.Machine.meaning self.old paths.now (word_call port value (length events.old))).answer events.old }
+        ensures state { state_of M.Machine.meaning self.new ≡ (outcome M.Machine.meaning self.old paths.now (word_call port value (length events.old))).state }
         ensures net { net_of M.Machine.meaning self.new ≡ net_of M.Machine.meaning self.old }
         ensures machine { gear_of self.new ≡ gear_of self.old }
     {

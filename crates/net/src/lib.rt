@@ -2,9 +2,9 @@
 
 #![tactic(auto)]
 
+mod building;
 mod call;
 mod held;
-mod making;
 mod table;
 
 pub use held::Net;

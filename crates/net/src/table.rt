@@ -2,7 +2,7 @@
 ghost use Rattle.std.specs.Prelude.{◌≡◌, ℕ, ◌+◌, ◌^◌, ◌<◌, ◌≤◌, map, length};
 ghost use Rattle.std.specs.Option.{unwrap_or};
 ghost use Rattle.semantics.specs.Net.{state_at};
-ghost use Rattle.semantics.specs.Calls.{lowest, number, telling, waited, word as word-call, step as step_call};
+ghost use Rattle.semantics.specs.Calls.{lowest, number, telling, waited, word as word_call, step as step_call};
 ghost use Rattle.delivery.specs.Known.{learned};
 ghost use Rattle.delivery.specs.Tests.{test_at};
 ghost use Rattle.gearing.specs.Gearing.{geared_by};
@@ -87,9 +87,9 @@ impl<M: Machine> Net<M> {
         value: u8,
         events: &mut [Event],
     ) -> ([StationState; 16], Result<usize, Refusal>)
-        ensures answer { result.1 ≡ counted (outcome M.Machine.meaning self.now paths.now (word-call port value (length events.old))).answer }
-        ensures slots { events.new ≡ written (outcome M.Machine.meaning self.now paths.now (word-call port value (length events.old))).answer events.old }
-        ensures state { state_over M.Machine.meaning self.now.machine result.0 self.now.total ≡ (outcome M.Machine.meaning self.now paths.now (word-call port value (length events.old))).state }
+        ensures answer { result.1 ≡ counted (outcome M.Machine.meaning self.now paths.now (word_call port value (length events.old))).answer }
+        ensures slots { events.new ≡ written (outcome M.Machine.meaning self.now paths.now (word_call port value (length events.old))).answer events.old }
+        ensures state { state_over M.Machine.meaning self.now.machine result.0 self.now.total ≡ (outcome M.Machine.meaning self.now paths.now (word_call port value (length events.old))).state }
         ensures within { Within result.0 self.now.total }
         ensures long { length result.0 ≡ 16 }
     {

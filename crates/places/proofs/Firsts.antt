@@ -2,7 +2,7 @@
 use Rattle.std.proofs.Common.{◌≡◌, ℕ, zero, suc, ◌+◌, ◌-◌, ◌<◌, ◌≤◌, Bool, true, false, cond, eqb, ltb, List, [], ◌∷◌, map, length, get_or, Some, None, Option, sym, refl, ap, ◌∙◌, subst, arith}
 use Rattle.std.specs.Option.{option_map}
 use Rattle.std.specs.Bool.{then_some}
-use Rattle.std.specs.List.{AllByRecursion as All}
+use Rattle.std.specs.List.{AllByRecursion}
 use Rattle.std.proofs.lemmas.Bool.Decides.{nat_tests}
 use Rattle.std.proofs.lemmas.Bool.{eq-eqb, ne_eqb, le-ltb, lt-ltb}
 use Rattle.book.specs.Bytes.{row}
@@ -67,7 +67,7 @@ first_read fits goal read i (k ∷ ks) = go (fits (read k)) (first_read fits goa
     go false rec = rec
 
 -- the record that is found has what all have
-pub first_has : (P : ℕ → Type 0) (passes : ℕ → ℕ → Bool) (i : ℕ) (ks : List ℕ) (k : ℕ) → Some k ≡ first_at passes i ks → All P ks → P k
+pub first_has : (P : ℕ → Type 0) (passes : ℕ → ℕ → Bool) (i : ℕ) (ks : List ℕ) (k : ℕ) → Some k ≡ first_at passes i ks → AllByRecursion P ks → P k
 first_has P passes i [] k e a = absurd (some_not_none k e)
 first_has P passes i (x ∷ ks) k e a = go (passes i x) e (λ f. first_has P passes (suc i) ks k f a.1)
   where

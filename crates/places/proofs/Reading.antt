@@ -1,6 +1,6 @@
 -- What is read from tables that were filled.
 use Rattle.std.proofs.Common.{◌≡◌, ℕ, zero, suc, ◌+◌, ◌<◌, ◌≤◌, Bool, true, false, cond, eqb, List, [], ◌∷◌, ◌++◌, map, length, get_or, take, set, sym, refl, ap, ◌∙◌, subst, arith, length-append}
-use Rattle.std.specs.List.{flat_map, AllByRecursion as All}
+use Rattle.std.specs.List.{flat_map, AllByRecursion}
 use Rattle.std.proofs.lemmas.List.{get_or-set_same, get_or-set_other, length-set}
 use Rattle.std.proofs.lemmas.Bool.{eqb-true, eqb-false, cond-true, cond-false}
 use Rattle.links.specs.Queues.{Distinct}
@@ -73,10 +73,10 @@ module _ (b : List ℕ) where
 
 -- a number that is not in a list
 abbrev ApartFrom : ℕ → List ℕ → Type 0
-ApartFrom k ks = All (λ y. y ≡ k → ⊥) ks
+ApartFrom k ks = AllByRecursion (λ y. y ≡ k → ⊥) ks
 
 -- a number of a list has what all have
-pub place_all : (P : ℕ → Type 0) (ks : List ℕ) (k : ℕ) → place_in ks k < length ks → All P ks → P k
+pub place_all : (P : ℕ → Type 0) (ks : List ℕ) (k : ℕ) → place_in ks k < length ks → AllByRecursion P ks → P k
 place_all P [] k h a = absurd (omega arith)
 place_all P (x ∷ ks) k h a = go (eqb x k) refl h (λ l. place_all P ks k l a.1)
   where
@@ -84,11 +84,11 @@ place_all P (x ∷ ks) k h a = go (eqb x k) refl h (λ l. place_all P ks k l a.1
     go true e l later = subst P (eqb-true x k e) a.0
     go false e l later = later (omega arith)
 
-pub all_left : (P : ℕ → Type 0) (xs ys : List ℕ) → All P (xs ++ ys) → All P xs
+pub all_left : (P : ℕ → Type 0) (xs ys : List ℕ) → AllByRecursion P (xs ++ ys) → AllByRecursion P xs
 all_left P [] ys a = tt
 all_left P (x ∷ xs) ys a = (a.0, all_left P xs ys a.1)
 
-pub all_right : (P : ℕ → Type 0) (xs ys : List ℕ) → All P (xs ++ ys) → All P ys
+pub all_right : (P : ℕ → Type 0) (xs ys : List ℕ) → AllByRecursion P (xs ++ ys) → AllByRecursion P ys
 all_right P [] ys a = a
 all_right P (x ∷ xs) ys a = all_right P xs ys a.1
 

@@ -1,7 +1,7 @@
 -- The tables stand for the book.
 use Rattle.std.proofs.Common.{◌≡◌, ℕ, zero, suc, ◌+◌, ◌<◌, ◌≤◌, Bool, true, false, cond, ltb, List, [], ◌∷◌, ◌++◌, map, length, get_or, take, replicate, Some, sym, refl, ap, ◌∙◌, subst, ap₂, arith, length-append}
 use Rattle.std.specs.Bool.{then_some}
-use Rattle.std.specs.List.{flat_map, AllByRecursion as All}
+use Rattle.std.specs.List.{flat_map, AllByRecursion}
 use Rattle.std.proofs.lemmas.List.{get_or-map, length-map, take_all}
 use Rattle.std.proofs.lemmas.Bool.{le-ltb, ltb-true}
 use Rattle.book.specs.Chains.{whole_records, chain_of}
@@ -45,11 +45,11 @@ module _ (b : List ℕ) (kind : BookKind) where
       let right = length-append (of_station kind b s) (flat_map (of_station kind b) ss) in
       omega arith
 
-  all_phases : (P : ℕ → Type 0) (ps : List ℕ) → All P (flat_map (of_phase kind b) ps) → All P ps
+  all_phases : (P : ℕ → Type 0) (ps : List ℕ) → AllByRecursion P (flat_map (of_phase kind b) ps) → AllByRecursion P ps
   all_phases P [] a = tt
   all_phases P (p ∷ ps) a = (a.0, all_phases P ps (all_right P (of_phase kind b p) (flat_map (of_phase kind b) ps) a))
 
-  all_of_station : (P : ℕ → Type 0) (ss : List ℕ) (i : ℕ) → i < length ss → All P (flat_map (of_station kind b) ss) → All P (phases_in b (get_or ss i 0))
+  all_of_station : (P : ℕ → Type 0) (ss : List ℕ) (i : ℕ) → i < length ss → AllByRecursion P (flat_map (of_station kind b) ss) → AllByRecursion P (phases_in b (get_or ss i 0))
   all_of_station P [] i h a = absurd (omega arith)
   all_of_station P (s ∷ ss) zero h a =
       all_phases P (phases_in b s) (all_left P (of_station kind b s) (flat_map (of_station kind b) ss) a).1
@@ -121,7 +121,7 @@ places_stand b kind sound few = record {
         let m : length (flat_map (phases b) (stations_in b)) ≡ length (flat_map (phases_in b) (stations_in b)) = ap (λ f. length (flat_map f (stations_in b))) same_phases in
         omega arith
 
-    within : (i : ℕ) → i < length (stations_in b) → All (λ x. (1 ≤ x) × (x ≤ told_records b)) (phases_of b i)
+    within : (i : ℕ) → i < length (stations_in b) → AllByRecursion (λ x. (1 ≤ x) × (x ≤ told_records b)) (phases_of b i)
     within i h =
         all_of_station b kind (λ x. (1 ≤ x) × (x ≤ told_records b)) (stations_in b) i h
         (all_left (λ x. (1 ≤ x) × (x ≤ told_records b)) (flat_map (of_station kind b) (stations_in b)) (paths_in b) tree.within)

@@ -1,6 +1,6 @@
 -- A book that holds the printed records is read as what was printed: transitions, locations, automata, paths.
 use Rattle.std.proofs.Common.{◌≡◌, ℕ, suc, ◌+◌, ◌<◌, ◌≤◌, Bool, List, [], ◌∷◌, ◌++◌, map, length, get_or, sum_by, Option, sym, refl, ap, ◌∙◌, subst, ap₂, arith, length-append}
-use Rattle.std.specs.List.{flat_map, AllByRecursion as All}
+use Rattle.std.specs.List.{flat_map, AllByRecursion}
 use Rattle.std.proofs.lemmas.List.{map-append}
 use Rattle.book.specs.Bytes.{at}
 use Rattle.book.specs.Chains.{chain_of}
@@ -11,7 +11,7 @@ use Rattle.semantics.specs.Times.{Order}
 use Rattle.semantics.specs.Trees.{Path, Station, Transition, Location}
 use Rattle.semantics.specs.Scales.{station_scale}
 use Rattle.semantics.specs.Print.{place_of, print_station, station_locations}
-use Rattle.semantics.specs.Books.{place_in, read_transition, read_location, read_automaton, read-path}
+use Rattle.semantics.specs.Books.{place_in, read_transition, read_location, read_automaton, read_path}
 use Rattle.semantics.specs.Rows.{leading, chained, transition_record, location_record, location_records, transition_records, size_of, count_from, location_numbers, phase_records, automaton_record, station_records, path_record}
 use Rattle.printing.proofs.Sizes.{size_least, chained_long, locations_long, transitions_long, phases_long}
 use Rattle.printing.proofs.Widths.{TransitionFits, LocationFits, Filled, StationFits}
@@ -52,7 +52,7 @@ module _ (b : List ℕ) where
         ap (λ (x : TransitionRow). record { goal = place_in numbers x.goal; label = x.label; resets = x.resets; guard = x.guard }) it
         ∙ ap (λ g. record { goal = g; label = t.label; resets = t.resets; guard = t.guard }) (place_back b 0 s numbers lead t.goal fits.goal_here)
 
-    transitions_read : (ts : List Transition) (k : ℕ) → Stands b k (chained (transition_record numbers) k ts) → All (TransitionFits (length numbers)) ts →
+    transitions_read : (ts : List Transition) (k : ℕ) → Stands b k (chained (transition_record numbers) k ts) → AllByRecursion (TransitionFits (length numbers)) ts →
         map (read_transition b numbers) (count_from k ts) ≡ ts
     transitions_read [] k a h = refl
     transitions_read (t ∷ ts) k a h =
@@ -72,7 +72,7 @@ module _ (b : List ℕ) where
         (ap (map (read_transition b numbers)) (chain_leads b first (count_from t l.transitions) on) ∙ transitions_read l.transitions t at fits.transitions_fit)
 
     phase_read : (ls : List Location) (k t after : ℕ) → 1 ≤ t → Stands b k (location_records k t after ls) → Stands b t (transition_records numbers t ls) →
-        All (LocationFits (length numbers)) ls → map (read_location b numbers) (count_from k ls) ≡ ls
+        AllByRecursion (LocationFits (length numbers)) ls → map (read_location b numbers) (count_from k ls) ≡ ls
     phase_read [] k t after some a at h = refl
     phase_read (l ∷ ls) k t after some a at h =
         let it = location_record (leading (suc k) after ls) (leading t 0 l.transitions) l in
@@ -83,7 +83,7 @@ module _ (b : List ℕ) where
         ap₂ (λ x y. x ∷ y) (location_read k (leading (suc k) after ls) t l (here b k it on a).0 some (left b mine theirs t at) h.0)
         (phase_read ls (suc k) (t + length l.transitions) after (omega arith) (behind b k it on a) (right b mine theirs t (t + length l.transitions) (omega arith) at) h.1)
 
-    phases_read : (bs : List (List Location)) (k : ℕ) → 1 ≤ k → Stands b k (phase_records numbers k bs) → All (All (LocationFits (length numbers))) bs →
+    phases_read : (bs : List (List Location)) (k : ℕ) → 1 ≤ k → Stands b k (phase_records numbers k bs) → AllByRecursion (AllByRecursion (LocationFits (length numbers))) bs →
         map (read_location b numbers) (location_numbers k bs) ≡ flat bs
     phases_read [] k some a h = refl
     phases_read (c ∷ bs) k some a h =
@@ -146,9 +146,9 @@ module _ (b : List ℕ) where
       ∙ ap (λ ns. record { scale = station_scale st; opening = place_in ns (get_or numbers opening 0); locations = map (read_location b ns) ns }) chained
       ∙ ap₂ (λ (p : ℕ) (ls : List Location). record { scale = station_scale st; opening = p; locations = ls })
       (place_back b 0 start numbers lead opening (omega arith))
-      (phases_read numbers start lead bs (suc k) (omega arith) at (subst (λ n. All (All (LocationFits n)) bs) (sym many) fits.all_fit))
+      (phases_read numbers start lead bs (suc k) (omega arith) at (subst (λ n. AllByRecursion (AllByRecursion (LocationFits n)) bs) (sym many) fits.all_fit))
 
-  pub automata_read : (o : Order) (sts : List Station) (k : ℕ) → Stands b k (station_records o k sts) → All (StationFits o) sts →
+  pub automata_read : (o : Order) (sts : List Station) (k : ℕ) → Stands b k (station_records o k sts) → AllByRecursion (StationFits o) sts →
       map (read_automaton b) (station_numbers o k sts) ≡ map (print_station o) sts
   automata_read o [] k a h = refl
   automata_read o (st ∷ sts) k a h =
@@ -178,7 +178,7 @@ module _ (b : List ℕ) where
       (refl, l, now.1, subst (λ x. Leads b k x (station_numbers o after sts)) (sym (holds_next b k it now.0)) lead)
 
   -- the paths
-  pub paths_read : (ps : List Path) (k : ℕ) → Stands b k (chained path_record k ps) → map (read-path b) (count_from k ps) ≡ ps
+  pub paths_read : (ps : List Path) (k : ℕ) → Stands b k (chained path_record k ps) → map (read_path b) (count_from k ps) ≡ ps
   paths_read [] k a = refl
   paths_read (p ∷ ps) k a =
       let next = leading (suc k) 0 ps in

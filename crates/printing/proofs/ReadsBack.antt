@@ -1,6 +1,6 @@
 -- The printed bytes, read as a book, give the printed tree.
 use Rattle.std.proofs.Common.{◌≡◌, ℕ, zero, suc, ◌+◌, ◌^◌, ◌<◌, ◌≤◌, Bool, true, false, cond, List, [], ◌∷◌, map, length, get_or, Some, None, Ok, Err, Option, unwrap_or, refl, ap, ◌∙◌, subst, ap₂, append-nil, arith, length-append}
-use Rattle.std.specs.List.{AllByRecursion as All}
+use Rattle.std.specs.List.{AllByRecursion}
 use Rattle.book.specs.Bytes.{two}
 use Rattle.book.specs.Chains.{chain_of, whole_records}
 use Rattle.book.specs.Terms.{order_byte, order_of_byte}
@@ -13,7 +13,7 @@ use Rattle.semantics.specs.Trees.{Path, Station, ModelNet, Automaton}
 use Rattle.semantics.specs.LawfulModels.{LawfulModel}
 use Rattle.semantics.specs.LawfulAutomata.{LawfulAutomaton}
 use Rattle.semantics.specs.Print.{print_station, print}
-use Rattle.semantics.specs.Books.{read_automaton, read-path, read_automata}
+use Rattle.semantics.specs.Books.{read_automaton, read_path, read_automata}
 use Rattle.semantics.specs.Rows.{Rec, leading, chained, count_from, station_records, path_record, printed_records, printed_head, printed_book}
 use Rattle.faithful.proofs.PrintedLawful.{printed_is_lawful}
 use Rattle.printing.specs.ReadsBack.{PrintedReadsBack}
@@ -40,7 +40,7 @@ reads_all b (x ∷ xs) k h = (
   reads_all b xs (suc k) (λ i l d. subst (λ j. Holds b j (get_or xs i d)) (let e : k + suc i ≡ suc k + i = omega arith in e) (h (suc i) (omega arith) d)),
 )
 
-all_stations_fit : (o : Order) (sts : List Station) → All LawfulAutomaton (map (print_station o) sts) → All (StationFits o) sts
+all_stations_fit : (o : Order) (sts : List Station) → AllByRecursion LawfulAutomaton (map (print_station o) sts) → AllByRecursion (StationFits o) sts
 all_stations_fit o [] h = tt
 all_stations_fit o (st ∷ sts) h = (station_fits o st h.0, all_stations_fit o sts h.1)
 
@@ -62,10 +62,10 @@ module _ (m : ModelNet) (ok : LawfulModel m) where
   few : length rs ≤ 2000
   few = (printed_fits m ok).few_records
 
-  stations : All (StationFits m.order) m.stations
+  stations : AllByRecursion (StationFits m.order) m.stations
   stations = all_stations_fit m.order m.stations (printed_is_lawful m ok).automata_fit
 
-  fit : All RecordFits rs
+  fit : AllByRecursion RecordFits rs
   fit = records_fit 2000 (omega arith) m ok.few_stations few stations ok.paths_fit
 
   held : (i : ℕ) → i < length rs → (d : Rec) → Holds b (1 + i) (get_or rs i d)
@@ -99,11 +99,11 @@ module _ (m : ModelNet) (ok : LawfulModel m) where
       ap (λ x. map (read_automaton b) (chain_of b x)) first
       ∙ ap (map (read_automaton b)) (chain_leads b (leading 1 0 m.stations) (station_numbers m.order 1 m.stations) lead)
       ∙ automata_read b m.order m.stations 1 at_body stations in
-      let ps : map (read-path b) (chain_of b (two b 8)) ≡ m.paths =
-      ap (λ x. map (read-path b) (chain_of b x)) path
-      ∙ ap (map (read-path b)) (chain_leads b (leading after 0 m.paths) (count_from after m.paths) path-lead)
+      let ps : map (read_path b) (chain_of b (two b 8)) ≡ m.paths =
+      ap (λ x. map (read_path b) (chain_of b x)) path
+      ∙ ap (map (read_path b)) (chain_leads b (leading after 0 m.paths) (count_from after m.paths) path-lead)
       ∙ paths_read b m.paths after at_paths in
-      ap (λ o. record { order = o; automata = map (read_automaton b) (chain_of b (two b 6)); paths = map (read-path b) (chain_of b (two b 8)) }) (order_back m.order)
+      ap (λ o. record { order = o; automata = map (read_automaton b) (chain_of b (two b 6)); paths = map (read_path b) (chain_of b (two b 8)) }) (order_back m.order)
       ∙ ap₂ (λ (x : List Automaton) (y : List Path). record { order = m.order; automata = x; paths = y }) aa ps
 
 pub printed_reads_back : PrintedReadsBack

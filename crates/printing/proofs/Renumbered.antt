@@ -1,6 +1,6 @@
 -- Model books that differ only in their record numbers are read as one tree.
 use Rattle.std.proofs.Common.{◌≡◌, ℕ, zero, suc, ◌<◌, ◌≤◌, Bool, true, false, cond, ◌||◌, eqb, ltb, ◌⊎◌, List, [], ◌∷◌, map, sym, refl, ap, ◌∙◌, ap₂, inl, inr, arith}
-use Rattle.std.specs.List.{AllByRecursion as All}
+use Rattle.std.specs.List.{AllByRecursion}
 use Rattle.std.proofs.ByRecursion.{All-weaker}
 use Rattle.std.proofs.lemmas.Bool.{eq-eqb, ne_eqb, lt-ltb, le-ltb, or_parts, eqb-false, ltb-false, cases_eq, cases_lt}
 use Rattle.book.specs.Bytes.{two, row}
@@ -12,11 +12,11 @@ use Rattle.book.specs.declared.record.Edge.{Edge as EdgeRow}
 use Rattle.records.specs.Model.{station_in, phase_in, edge_in}
 use Rattle.semantics.specs.Times.{Order, Fraction}
 use Rattle.semantics.specs.Trees.{Word, Edge, Phase, endless, lasting, Station, Path}
-use Rattle.semantics.specs.Books.{marks_of, rest_of, place_in, is_endless, read_word, read_edge, read_phase, read_station, read-path, read-order, read_model}
+use Rattle.semantics.specs.Books.{marks_of, rest_of, place_in, is_endless, read_word, read_edge, read_phase, read_station, read_path, read_order, read_model}
 use Rattle.semantics.specs.Rows.{printed_book}
 use Rattle.printing.specs.Renumbered.{IsOf, Renumbered, ChainsOfKinds, NumbersDoNotMatter}
 
-mapped_same : {A B : Type 0} (f g : A → B) (h : A → A) (xs : List A) → All (λ x. f (h x) ≡ g x) xs → map f (map h xs) ≡ map g xs
+mapped_same : {A B : Type 0} (f g : A → B) (h : A → A) (xs : List A) → AllByRecursion (λ x. f (h x) ≡ g x) xs → map f (map h xs) ≡ map g xs
 mapped_same f g h [] e = refl
 mapped_same f g h (x ∷ xs) e = ap₂ (λ a r. a ∷ r) e.0 (mapped_same f g h xs e.1)
 
@@ -112,12 +112,12 @@ module _ (ρ : ℕ → ℕ) (b c : List ℕ) (moved : Renumbered ρ b c) where
       ap (λ k. map (read_station c) (chain_of c k)) moved.first_station
       ∙ ap (map (read_station c)) (chain_same (two b 6))
       ∙ mapped_same (read_station c) (read_station b) ρ (chain_of b (two b 6)) (All-weaker _ _ (station_same ofk) (chain_of b (two b 6)) ofk.stations) in
-      let paths : map (read-path c) (chain_of c (two c 8)) ≡ map (read-path b) (chain_of b (two b 8)) =
-      ap (λ k. map (read-path c) (chain_of c k)) moved.first_path
-      ∙ ap (map (read-path c)) (chain_same (two b 8))
-      ∙ mapped_same (read-path c) (read-path b) ρ (chain_of b (two b 8)) (All-weaker _ _ moved.paths (chain_of b (two b 8)) ofk.paths) in
-      ap₂ (λ (o : Order) (ss : List Station). record { order = o; stations = ss; paths = map (read-path c) (chain_of c (two c 8)) }) moved.order stations
-      ∙ ap (λ (ps : List Path). record { order = read-order b; stations = map (read_station b) (chain_of b (two b 6)); paths = ps }) paths
+      let paths : map (read_path c) (chain_of c (two c 8)) ≡ map (read_path b) (chain_of b (two b 8)) =
+      ap (λ k. map (read_path c) (chain_of c k)) moved.first_path
+      ∙ ap (map (read_path c)) (chain_same (two b 8))
+      ∙ mapped_same (read_path c) (read_path b) ρ (chain_of b (two b 8)) (All-weaker _ _ moved.paths (chain_of b (two b 8)) ofk.paths) in
+      ap₂ (λ (o : Order) (ss : List Station). record { order = o; stations = ss; paths = map (read_path c) (chain_of c (two c 8)) }) moved.order stations
+      ∙ ap (λ (ps : List Path). record { order = read_order b; stations = map (read_station b) (chain_of b (two b 6)); paths = ps }) paths
 
 pub numbers_do_not_matter : NumbersDoNotMatter
 numbers_do_not_matter ρ b c moved ofk =

@@ -1,6 +1,6 @@
 -- Every printed record fits its fields.
 use Rattle.std.proofs.Common.{ℕ, zero, suc, ◌+◌, ◌*◌, ◌<◌, ◌≤◌, List, [], ◌∷◌, ◌++◌, length, get_or, Some, None, sum_by, Option, mul-le-mul_left, arith, length-append}
-use Rattle.std.specs.List.{flat_map, AllByRecursion as All}
+use Rattle.std.specs.List.{flat_map, AllByRecursion}
 use Rattle.std.proofs.ByRecursion.{All-append, All-weaker}
 use Rattle.records.specs.Fits.{Byte, Two, Four, Eight, HighFits, WindowFits, PathFits, LabelFits, BoundFits, AutomatonFits, Fits}
 use Rattle.semantics.specs.Times.{HighEnd, Closed, Open, Absent, Order}
@@ -27,17 +27,17 @@ pub record LocationFits (n : ℕ) (l : Location) : Type 0 where
   pub phase_fits : Two l.phase
   pub sent_fits : Byte l.sent
   pub bound_fits : BoundFits l.bound
-  pub transitions_fit : All (TransitionFits n) l.transitions
+  pub transitions_fit : AllByRecursion (TransitionFits n) l.transitions
 
 abbrev pub Filled : List (List Location) → Type 0
-Filled bs = All (λ b. 1 ≤ length b) bs
+Filled bs = AllByRecursion (λ b. 1 ≤ length b) bs
 
 -- A station's locations, phase by phase.
 pub record StationFits (o : Order) (st : Station) : Type 0 where
   pub scale_fits : Four (station_scale st)
   pub opening_here : place_of st.phases st.opening < length (flat_map (λ b. b) (station_locations o st))
   pub filled : Filled (station_locations o st)
-  pub all_fit : All (All (LocationFits (length (flat_map (λ b. b) (station_locations o st))))) (station_locations o st)
+  pub all_fit : AllByRecursion (AllByRecursion (LocationFits (length (flat_map (λ b. b) (station_locations o st))))) (station_locations o st)
 
 -- Lawful automata fit.
 label_fits : (l : Label) → LawfulLabel l → LabelFits l
@@ -73,7 +73,7 @@ location_fits a few l h = record {
   transitions_fit = All-weaker _ _ (transition_fits a.scale few (length a.locations) l.bound) l.transitions h.transitions_fit;
 }
 
-all_blocks : {A : Type 0} (P : A → Type 0) (bs : List (List A)) → All P (flat_map (λ b. b) bs) → All (All P) bs
+all_blocks : {A : Type 0} (P : A → Type 0) (bs : List (List A)) → AllByRecursion P (flat_map (λ b. b) bs) → AllByRecursion (AllByRecursion P) bs
 all_blocks P [] h = tt
 all_blocks P (b ∷ bs) h = let r = all_parts P b (flat_map (λ x. x) bs) h in (r.0, all_blocks P bs r.1)
 
@@ -99,21 +99,21 @@ module _ (B : ℕ) (small : B < 65536) where
   leading_small (x ∷ xs) k after a h = omega arith
 
   chained_fit : {A : Type 0} (write : ℕ → A → Rec) (P : A → Type 0) → ((next : ℕ) (x : A) → next ≤ B → P x → RecordFits (write next x)) →
-      (xs : List A) (k : ℕ) → k + length xs ≤ suc B → All P xs → All RecordFits (chained write k xs)
+      (xs : List A) (k : ℕ) → k + length xs ≤ suc B → AllByRecursion P xs → AllByRecursion RecordFits (chained write k xs)
   chained_fit write P one [] k h all = tt
   chained_fit write P one (x ∷ xs) k h all = (
     one (leading (suc k) 0 xs) x (leading_small xs (suc k) 0 (omega arith) (omega arith)) all.0,
     chained_fit write P one xs (suc k) (omega arith) all.1,
   )
 
-  get_or_small : (ns : List ℕ) (i : ℕ) → All (λ n. n ≤ B) ns → get_or ns i 0 ≤ B
+  get_or_small : (ns : List ℕ) (i : ℕ) → AllByRecursion (λ n. n ≤ B) ns → get_or ns i 0 ≤ B
   get_or_small [] i h = omega arith
   get_or_small (n ∷ ns) zero h = h.0
   get_or_small (n ∷ ns) (suc i) h = get_or_small ns i h.1
 
   module _ (n : ℕ) where
     locations_fit : (ls : List Location) (k t after : ℕ) → after ≤ B → k + length ls ≤ suc B → t + size_of ls ≤ suc B + length ls →
-        All (LocationFits n) ls → All RecordFits (location_records k t after ls)
+        AllByRecursion (LocationFits n) ls → AllByRecursion RecordFits (location_records k t after ls)
     locations_fit [] k t after a h j all = tt
     locations_fit (l ∷ ls) k t after a h j all =
         let size = size_cons l ls in
@@ -125,8 +125,8 @@ module _ (B : ℕ) (small : B < 65536) where
           locations_fit ls (suc k) (t + length l.transitions) after a (omega arith) (omega arith) all.1,
         )
 
-    transitions_fit : (numbers : List ℕ) → All (λ x. x ≤ B) numbers → (ls : List Location) (t : ℕ) → t + size_of ls ≤ suc B + length ls →
-        All (LocationFits n) ls → All RecordFits (transition_records numbers t ls)
+    transitions_fit : (numbers : List ℕ) → AllByRecursion (λ x. x ≤ B) numbers → (ls : List Location) (t : ℕ) → t + size_of ls ≤ suc B + length ls →
+        AllByRecursion (LocationFits n) ls → AllByRecursion RecordFits (transition_records numbers t ls)
     transitions_fit numbers few [] t j all = tt
     transitions_fit numbers few (l ∷ ls) t j all =
         let size = size_cons l ls in
@@ -140,8 +140,8 @@ module _ (B : ℕ) (small : B < 65536) where
     lead_small [] k f h = omega arith
     lead_small (b ∷ bs) k f h = let a = sizes_cons b bs in let c = size_least b in let d = f.0 in omega arith
 
-    phases_fit : (numbers : List ℕ) → All (λ x. x ≤ B) numbers → (bs : List (List Location)) (k : ℕ) → Filled bs → k + sum_by size_of bs ≤ suc B →
-        All (All (LocationFits n)) bs → All RecordFits (phase_records numbers k bs)
+    phases_fit : (numbers : List ℕ) → AllByRecursion (λ x. x ≤ B) numbers → (bs : List (List Location)) (k : ℕ) → Filled bs → k + sum_by size_of bs ≤ suc B →
+        AllByRecursion (AllByRecursion (LocationFits n)) bs → AllByRecursion RecordFits (phase_records numbers k bs)
     phases_fit numbers few [] k f h all = tt
     phases_fit numbers few (b ∷ bs) k f h all =
         let sizes = sizes_cons b bs in
@@ -154,18 +154,18 @@ module _ (B : ℕ) (small : B < 65536) where
         (All-append RecordFits ts on (transitions_fit numbers few b (k + length b) (omega arith) all.0)
         (phases_fit numbers few bs (k + size_of b) f.1 (omega arith) all.1))
 
-  count_small : {A : Type 0} (xs : List A) (k : ℕ) → k + length xs ≤ suc B → All (λ x. x ≤ B) (count_from k xs)
+  count_small : {A : Type 0} (xs : List A) (k : ℕ) → k + length xs ≤ suc B → AllByRecursion (λ x. x ≤ B) (count_from k xs)
   count_small [] k h = tt
   count_small (x ∷ xs) k h = (omega arith, count_small xs (suc k) (omega arith))
 
-  numbers_small : (bs : List (List Location)) (k : ℕ) → k + sum_by size_of bs ≤ suc B → All (λ x. x ≤ B) (location_numbers k bs)
+  numbers_small : (bs : List (List Location)) (k : ℕ) → k + sum_by size_of bs ≤ suc B → AllByRecursion (λ x. x ≤ B) (location_numbers k bs)
   numbers_small [] k h = tt
   numbers_small (b ∷ bs) k h =
       let sizes = sizes_cons b bs in
       let least = size_least b in
       All-append (λ x. x ≤ B) (count_from k b) (location_numbers (k + size_of b) bs) (count_small b k (omega arith)) (numbers_small bs (k + size_of b) (omega arith))
 
-  stations_fit : (o : Order) (sts : List Station) (k : ℕ) → k + length (station_records o k sts) ≤ suc B → All (StationFits o) sts → All RecordFits (station_records o k sts)
+  stations_fit : (o : Order) (sts : List Station) (k : ℕ) → k + length (station_records o k sts) ≤ suc B → AllByRecursion (StationFits o) sts → AllByRecursion RecordFits (station_records o k sts)
   stations_fit o [] k h all = tt
   stations_fit o (st ∷ sts) k h all =
       let bs = station_locations o st in
@@ -188,8 +188,8 @@ module _ (B : ℕ) (small : B < 65536) where
   path_fits : (n : ℕ) → n ≤ 16 → (p : Path) → LawfulPath n p → PathFits p
   path_fits n few p h = ((let a = h.sender_known in omega arith), h.sender_port_width, (let a = h.hearer_known in omega arith), h.hearer_port_width)
 
-  pub records_fit : (m : ModelNet) → length m.stations ≤ 16 → length (printed_records m) ≤ B → All (StationFits m.order) m.stations → All (LawfulPath (length m.stations)) m.paths →
-      All RecordFits (printed_records m)
+  pub records_fit : (m : ModelNet) → length m.stations ≤ 16 → length (printed_records m) ≤ B → AllByRecursion (StationFits m.order) m.stations → AllByRecursion (LawfulPath (length m.stations)) m.paths →
+      AllByRecursion RecordFits (printed_records m)
   records_fit m few h stations paths =
       let body = station_records m.order 1 m.stations in
       let a = length-append body (chained path_record (suc (length body)) m.paths) in

@@ -1,6 +1,6 @@
 -- Books that differ only in their record numbers.
 use Rattle.std.specs.Prelude.{◌≡◌, ℕ, ◌≤◌, ◌↔◌, List}
-use Rattle.std.specs.List.{AllByRecursion as All}
+use Rattle.std.specs.List.{AllByRecursion}
 use Rattle.book.specs.Bytes.{at, two, row}
 use Rattle.book.specs.Chains.{chain_of, next_index, whole_records}
 use Rattle.book.specs.Terms.{kind_byte}
@@ -11,7 +11,7 @@ use Rattle.book.specs.declared.record.Phase.{Phase}
 use Rattle.book.specs.declared.record.Edge.{Edge}
 use Rattle.records.specs.Fields.{path_in}
 use Rattle.records.specs.Model.{station_in, phase_in, edge_in, word_in}
-use Rattle.semantics.specs.Books.{marks_of, rest_of, read-order, read_model}
+use Rattle.semantics.specs.Books.{marks_of, rest_of, read_order, read_model}
 use Rattle.semantics.specs.Rows.{printed_book}
 
 -- record k of the book is there, and of that kind
@@ -36,7 +36,7 @@ pub record Renumbered (ρ : ℕ → ℕ) (b c : List ℕ) : Type 0 where
   pub apart : (j k : ℕ) → ρ j ≡ ρ k → j ≡ k
   pub inside : (k : ℕ) → k ≤ whole_records b ↔ ρ k ≤ whole_records b
   pub as_many : whole_records c ≡ whole_records b
-  pub order : read-order c ≡ read-order b
+  pub order : read_order c ≡ read_order b
   pub first_station : two c 6 ≡ ρ (two b 6)
   pub first_path : two c 8 ≡ ρ (two b 8)
   pub next : (k : ℕ) → 1 ≤ k → k ≤ whole_records b → next_index (row c (ρ k)) ≡ ρ (next_index (row b k))
@@ -48,11 +48,11 @@ pub record Renumbered (ρ : ℕ → ℕ) (b c : List ℕ) : Type 0 where
 
 -- The chains of a model book hold records of their own kinds, as its check asks (Links).
 pub record ChainsOfKinds (b : List ℕ) : Type 0 where
-  pub stations : All (IsOf b kinds.Station) (chain_of b (two b 6))
-  pub paths : All (IsOf b kinds.Path) (chain_of b (two b 8))
-  pub phases : (k : ℕ) → IsOf b kinds.Station k → All (IsOf b kinds.Phase) (chain_of b (station_in (rest_of b k)).first_phase)
-  pub edges : (k : ℕ) → IsOf b kinds.Phase k → All (IsOf b kinds.Edge) (chain_of b (phase_in (rest_of b k)).first_edge)
-  pub words : (k : ℕ) → IsOf b kinds.Phase k → All (IsOf b kinds.Word) (chain_of b (phase_in (rest_of b k)).first_word)
+  pub stations : AllByRecursion (IsOf b kinds.Station) (chain_of b (two b 6))
+  pub paths : AllByRecursion (IsOf b kinds.Path) (chain_of b (two b 8))
+  pub phases : (k : ℕ) → IsOf b kinds.Station k → AllByRecursion (IsOf b kinds.Phase) (chain_of b (station_in (rest_of b k)).first_phase)
+  pub edges : (k : ℕ) → IsOf b kinds.Phase k → AllByRecursion (IsOf b kinds.Edge) (chain_of b (phase_in (rest_of b k)).first_edge)
+  pub words : (k : ℕ) → IsOf b kinds.Phase k → AllByRecursion (IsOf b kinds.Word) (chain_of b (phase_in (rest_of b k)).first_word)
 
 -- Two model books that differ only in their record numbers are read as one tree, and print the same bytes.
 pub record PrintsTheSame (b c : List ℕ) : Type 0 where

@@ -1,6 +1,6 @@
 -- Records come back: what is written is read again, and what is read is written again as it was.
 use Rattle.std.specs.Prelude.{◌≡◌, ℕ, ◌+◌, ◌*◌, ◌^◌, ◌<◌, List, [], ◌∷◌, ◌++◌, length, Some, None, Ok, Option, slice_index_or}
-use Rattle.std.specs.List.{AllByRecursion as All}
+use Rattle.std.specs.List.{AllByRecursion}
 use Rattle.book.specs.Bytes.{row}
 use Rattle.book.specs.declared.term.BookKind.{BookKind}
 use Rattle.book.specs.declared.term.BookKind.TheVariants.{Model, Automaton}
@@ -31,7 +31,7 @@ module _ {B : Type 0} (fits : B → Type 0) (decoded : List ℕ → Option (Reco
     -- every record of a book that is written is read as it was, whatever stands behind the book
     abbrev pub WrittenReads : Type 0
     WrittenReads =
-        (head : Head) (xs : List (Record B)) (behind : List ℕ) → All (Fits fits) xs → length xs < 2 ^ 16
+        (head : Head) (xs : List (Record B)) (behind : List ℕ) → AllByRecursion (Fits fits) xs → length xs < 2 ^ 16
         → (k : ℕ) (x : Record B) → k < length xs → x ≡ slice_index_or xs k x → record_of decoded (book_bytes kind encoded head xs ++ behind) (k + 1) ≡ Ok x
 
     -- a book that is read record by record, and written again, has the same bytes

@@ -1,7 +1,7 @@
 -- A station by the model's rules is the atomic model of its phases.
 use Rattle.std.proofs.Common.{◌≡◌, ℕ, zero, suc, ◌<◌, Bool, true, false, cond, ◌⊎◌, ◌↔◌, List, [], ◌∷◌, length, drop, Some, None, Option, sym, refl, ap, ◌∙◌, ap₂, inl, inr, arith}
 use Rattle.std.specs.Option.{option_map, option_or}
-use Rattle.std.specs.List.{AllByRecursion as All}
+use Rattle.std.specs.List.{AllByRecursion}
 use Rattle.std.proofs.ByRecursion.{All-get_or}
 use Rattle.std.proofs.lemmas.Bool.{eqb-true, eq-eqb, and_parts, leb-true, le-leb, both_ways}
 use Rattle.semantics.specs.Times.{Fraction, Proper, plus, over, zero_time, Order}
@@ -47,19 +47,19 @@ may_leave (endless edges) x w y l e h = absurd (some_not_none l (sym e))
 may_leave (lasting life words next edges) x w y l e h = h
 
 -- Of edges of which at most one fits, any that fits is the first.
-none_fits : {A : Type 0} (fits : A → Bool) (goal : A → ℕ) (xs : List A) → All (λ x. fits x ≡ false) xs → first fits goal xs ≡ None
+none_fits : {A : Type 0} (fits : A → Bool) (goal : A → ℕ) (xs : List A) → AllByRecursion (λ x. fits x ≡ false) xs → first fits goal xs ≡ None
 none_fits fits goal [] h = refl
 none_fits fits goal (x ∷ xs) h = ap₂ (λ b r. cond b (Some (goal x)) r) h.0 (none_fits fits goal xs h.1)
 
-fits_none : {A : Type 0} (fits : A → Bool) (goal : A → ℕ) (xs : List A) → first fits goal xs ≡ None → All (λ x. fits x ≡ false) xs
+fits_none : {A : Type 0} (fits : A → Bool) (goal : A → ℕ) (xs : List A) → first fits goal xs ≡ None → AllByRecursion (λ x. fits x ≡ false) xs
 fits_none fits goal [] e = tt
 fits_none fits goal (x ∷ xs) e = go (fits x) refl (fits_none fits goal xs)
   where
-    go : (b : Bool) → fits x ≡ b → (first fits goal xs ≡ None → All (λ y. fits y ≡ false) xs) → All (λ y. fits y ≡ false) (x ∷ xs)
+    go : (b : Bool) → fits x ≡ b → (first fits goal xs ≡ None → AllByRecursion (λ y. fits y ≡ false) xs) → AllByRecursion (λ y. fits y ≡ false) (x ∷ xs)
     go true f rest = absurd (some_not_none (goal x) (sym (ap (λ b. cond b (Some (goal x)) (first fits goal xs)) f) ∙ e))
     go false f rest = (f, rest (sym (ap (λ b. cond b (Some (goal x)) (first fits goal xs)) f) ∙ e))
 
-not_any : {A : Type 0} (fits : A → Bool) (Q : A → Type 0) (xs : List A) → All (λ x. fits x ≡ false) xs → Any (λ x. (fits x ≡ true) × Q x) xs → ⊥
+not_any : {A : Type 0} (fits : A → Bool) (Q : A → Type 0) (xs : List A) → AllByRecursion (λ x. fits x ≡ false) xs → Any (λ x. (fits x ≡ true) × Q x) xs → ⊥
 not_any fits Q [] h a = a
 not_any fits Q (x ∷ xs) h (inl a) = both_ways (fits x) h.0 a.0
 not_any fits Q (x ∷ xs) h (inr a) = not_any fits Q xs h.1 a
@@ -123,7 +123,7 @@ module _ (o : Order) (scale : ℕ) (st : Station) (lawful : LawfulStation o st) 
             let m = mapped_some _ s e in
             (refl, first_any _ (λ e. e.goal) fresh y m.0 (r ∙ ap (λ z. aged z zero_time) m.1.1) (edges_of f) m.1.0)
 
-        deaf : (w : Word) → (0 < 0) ⊎ All (λ e. edge_fits o (lifetime_of f) w.port w.value t e ≡ false) (edges_of f) → hear o st.phases i 0 t w ≡ None
+        deaf : (w : Word) → (0 < 0) ⊎ AllByRecursion (λ e. edge_fits o (lifetime_of f) w.port w.value t e ≡ false) (edges_of f) → hear o st.phases i 0 t w ≡ None
         deaf w (inl l) = absurd (omega arith)
         deaf w (inr h) = ap (option_map (λ g. burst g 0)) (none_fits _ (λ e. e.goal) (edges_of f) h)
 

@@ -2,7 +2,7 @@
 use Rattle.std.proofs.Common.{◌≡◌, ℕ, zero, suc, ◌+◌, ◌*◌, ◌/◌, ◌%◌, ◌<◌, ◌≤◌, min, max, Bool, true, false, cond, eqb, ◌⊎◌, List, [], ◌∷◌, sym, refl, ap, ◌∙◌, subst, ap₂, inl, inr, mod-lt, mul-le-mul_left, mul-one, arith}
 use Prim.Native.Nat.{◌∣◌}
 use native.Mathlib.Nat.{dvd-mul_right, dvd_trans, dvd_of_mod-eq-zero, mod-eq-zero_of_dvd, one-le-mul, mul-div_cancel', mul-mod_left, dvd-mod_iff, dvd_refl, le_of_dvd, min-eq_left, min-eq_right, max-eq_left, max-eq_right, one-dvd}
-use Rattle.std.specs.List.{AllByRecursion as All}
+use Rattle.std.specs.List.{AllByRecursion}
 use Rattle.std.proofs.lemmas.Bool.{eqb-true, eqb-false, cases_eq, cases_lt}
 use Rattle.semantics.specs.Scales.{first_multiple, lcm, lcm_all}
 use Rattle.semantics.specs.Laws.{LeastCommon}
@@ -84,9 +84,9 @@ lcm_divides a d r c some common l m = go (c % r) refl
 
 record AllCommon (a : ℕ) (ds : List ℕ) (r : ℕ) : Type 0 where
   first : a ∣ r
-  each : All (λ d. 1 ≤ d → d ∣ r) ds
+  each : AllByRecursion (λ d. 1 ≤ d → d ∣ r) ds
   some : 1 ≤ r
-  least : (c : ℕ) → 1 ≤ c → a ∣ c → All (λ d. 1 ≤ d → d ∣ c) ds → r ≤ c
+  least : (c : ℕ) → 1 ≤ c → a ∣ c → AllByRecursion (λ d. 1 ≤ d → d ∣ c) ds → r ≤ c
 
 -- a 0 among them changes nothing
 skip_zero : (a : ℕ) → lcm a 0 ≡ a

@@ -4,7 +4,7 @@ use Prim.Native.Nat.{◌∣◌}
 use native.Mathlib.Nat.{mul-add-div, mul-add-mod_self_left, div-add-mod, div-eq_of_lt, mul-div_cancel', one-le-mul}
 use lib.ListN.{length-map}
 use Rattle.std.specs.Option.{option_map}
-use Rattle.std.specs.List.{flat_map, AllByRecursion as All}
+use Rattle.std.specs.List.{flat_map, AllByRecursion}
 use Rattle.std.proofs.ByRecursion.{All-get_or, All-map, All-weaker}
 use Rattle.std.proofs.lemmas.Bool.{ltb-true, lt-ltb, leb-true, leb-false, le-leb, eqb-true, and_parts, and_left, or_cases}
 use Rattle.std.proofs.lemmas.Bool.Decides.{nat_tests}
@@ -31,7 +31,7 @@ stance_numbers = record {
 
 -- what the first that fits leads to, all of them lead to
 first_among : {A : Type 0} (P : ℕ → Type 0) (fits : A → Bool) (goal : A → ℕ) (xs : List A) (s : ℕ) →
-    All (λ x. P (goal x)) xs → first fits goal xs ≡ Some s → P s
+    AllByRecursion (λ x. P (goal x)) xs → first fits goal xs ≡ Some s → P s
 first_among P fits goal [] s h e = absurd (some_not_none s (sym e))
 first_among P fits goal (x ∷ xs) s h e = go (fits x) refl (first_among P fits goal xs s h.1)
   where
@@ -63,7 +63,7 @@ module _ (o : Order) (scale n : ℕ) (m : StationMeaning) (scaled : m.scale ≡ 
       go (w ∷ []) b = fresh next here
       go (w ∷ x ∷ xs) b = b (omega arith)
 
-  goals_known : (es : List Edge) → All (LawfulEdge n) es → All (λ e. m.known (stance_number e.goal 0) ≡ true) es
+  goals_known : (es : List Edge) → AllByRecursion (LawfulEdge n) es → AllByRecursion (λ e. m.known (stance_number e.goal 0) ≡ true) es
   goals_known es h = All-weaker (LawfulEdge n) _ (λ e l. fresh e.goal l.goal_here) es h
 
   quiet_sound : (i : ℕ) (f : Phase) → LawfulPhase o n f → (2 ≤ length (words_of f) → m.known (stance_number i 1) ≡ true) →
@@ -150,7 +150,7 @@ model_sound m lawful = record {
 }
 
 -- An automaton.
-moves_among : (P : ℕ → Type 0) (ts : List Transition) (k : Move) → All (λ t. P t.goal) ts → move_among ts ≡ Some k → P k.follows
+moves_among : (P : ℕ → Type 0) (ts : List Transition) (k : Move) → AllByRecursion (λ t. P t.goal) ts → move_among ts ≡ Some k → P k.follows
 moves_among P [] k h e = absurd (some_not_none k (sym e))
 moves_among P (t ∷ ts) k h e = go t.label e (moves_among P ts k h.1)
   where
@@ -211,7 +211,7 @@ module _ (a : Automaton) where
     rests = still l.committed l.bound l.transitions lawful.not_both lawful.moves_fit;
   }
     where
-      goals : All (λ t. t.goal < length a.locations) l.transitions
+      goals : AllByRecursion (λ t. t.goal < length a.locations) l.transitions
       goals = All-weaker (LawfulTransition (length a.locations) a.scale l.bound) _ (λ t h. h.goal_here) l.transitions lawful.transitions_fit
 
       passed : (b : Bool) (x : Option ℕ) (s : ℕ) → cond b x None ≡ Some s → x ≡ Some s
@@ -275,11 +275,11 @@ gear_sound f m some fits sound = record {
     }
 
 -- a sound machine's scales divide its net scale
-scales_divide : (L : ℕ) (ms : Meaning) → All SoundStation ms → All (λ d. 1 ≤ d → d ∣ L) (map (λ m. m.scale) ms) → All (λ m. m.scale * (L / m.scale) ≡ L) ms
+scales_divide : (L : ℕ) (ms : Meaning) → AllByRecursion SoundStation ms → AllByRecursion (λ d. 1 ≤ d → d ∣ L) (map (λ m. m.scale) ms) → AllByRecursion (λ m. m.scale * (L / m.scale) ≡ L) ms
 scales_divide L [] sound h = tt
 scales_divide L (m ∷ ms) sound h = (mul-div_cancel' m.scale (h.0 sound.0.some_scale), scales_divide L ms sound.1 h.1)
 
-exact : (ms : Meaning) → All SoundStation ms → All (λ m. m.scale * factor (net_scale ms) m ≡ net_scale ms) ms
+exact : (ms : Meaning) → AllByRecursion SoundStation ms → AllByRecursion (λ m. m.scale * factor (net_scale ms) m ≡ net_scale ms) ms
 exact ms sound = scales_divide (net_scale ms) ms sound (least_common (map (λ m. m.scale) ms)).common
 
 -- where scale × factor is the net scale, which is not 0, the factor is not 0
@@ -287,7 +287,7 @@ some_factor : (s f L : ℕ) → 1 ≤ L → s * f ≡ L → 1 ≤ f
 some_factor s zero L some e = absurd (omega arith)
 some_factor s (suc f) L some e = omega arith
 
-all_both : {X : Type 0} (P Q R : X → Type 0) → ((x : X) → P x → Q x → R x) → (xs : List X) → All P xs → All Q xs → All R xs
+all_both : {X : Type 0} (P Q R : X → Type 0) → ((x : X) → P x → Q x → R x) → (xs : List X) → AllByRecursion P xs → AllByRecursion Q xs → AllByRecursion R xs
 all_both P Q R f [] h k = tt
 all_both P Q R f (x ∷ xs) h k = (f x h.0 k.0, all_both P Q R f xs h.1 k.1)
 

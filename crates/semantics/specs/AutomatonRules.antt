@@ -1,6 +1,6 @@
 -- The rules of a timed automaton: a location, and one clock in the automaton's own ticks.
 use Rattle.std.specs.Prelude.{◌≡◌, ℕ, ◌/◌, Bool, true, false, cond, List, length, Some, None, Option}
-use Rattle.std.specs.List.{AllByRecursion as All}
+use Rattle.std.specs.List.{AllByRecursion}
 use Rattle.semantics.specs.Times.{Fraction, same_time, plus, over, whole, zero_time, inside}
 use Rattle.semantics.specs.Trees.{Word, Label, Silent, Hears, Sends, Transition, location_at, Automaton, AutomatonNet, automaton_at}
 use Rattle.semantics.specs.Scales.{automaton_scale}
@@ -41,7 +41,7 @@ automaton_rules factor a = record {
   later = λ d x. record { location = x.location; clock = plus x.clock (over d factor) };
   Hears = λ x p v y.
       Any (λ t. (transition_fits p v x.clock t ≡ true) × (y ≡ through t x)) (location_at a x.location).transitions;
-  Deaf = λ x p v. All (λ t. transition_fits p v x.clock t ≡ false) (location_at a x.location).transitions;
+  Deaf = λ x p v. AllByRecursion (λ t. transition_fits p v x.clock t ≡ false) (location_at a x.location).transitions;
   Moves = λ x w y.
       Any (λ t. MovesWith t.label w × (inside whole t.guard x.clock ≡ true) × (y ≡ through t x))
       (location_at a x.location).transitions;

@@ -4,7 +4,7 @@ use Rattle.std.specs.Prelude.{ℕ, suc, Bool, cond, ◌&&◌, List, [], ◌∷�
 use Rattle.book.specs.Bytes.{at, two, row}
 use Rattle.book.specs.Chains.{chain_of}
 -- the head's order, the path in a record, and the paths in the order of their chain
-pub use Rattle.records.specs.Heads.{order_in as read-order, path_at as read-path, paths_in as read-paths}
+pub use Rattle.records.specs.Heads.{order_in as read_order, path_at as read_path, paths_in as read_paths}
 use Rattle.records.specs.Model.{station_in, phase_in, edge_in, word_in}
 use Rattle.records.specs.Automaton.{automaton_in, location_in, transition_in}
 use Rattle.semantics.specs.Times.{Fraction}
@@ -51,7 +51,7 @@ read_station b k =
 
 -- the tree of a model book
 abbrev pub read_model : List ℕ → ModelNet
-read_model b = record { order = read-order b; stations = map (read_station b) (chain_of b (two b 6)); paths = read-paths b }
+read_model b = record { order = read_order b; stations = map (read_station b) (chain_of b (two b 6)); paths = read_paths b }
 
 -- a transition of an automaton whose locations are the records `locations`
 abbrev pub read_transition : List ℕ → List ℕ → ℕ → Transition
@@ -78,4 +78,4 @@ read_automaton b k =
 
 -- the tree of an automaton book
 abbrev pub read_automata : List ℕ → AutomatonNet
-read_automata b = record { order = read-order b; automata = map (read_automaton b) (chain_of b (two b 6)); paths = read-paths b }
+read_automata b = record { order = read_order b; automata = map (read_automaton b) (chain_of b (two b 6)); paths = read_paths b }

@@ -1,7 +1,7 @@
 -- Lawful automaton nets, printed or not: what the check of an automaton book asks of its tree. A comment names the fault
 -- that a breach is.
 use Rattle.std.specs.Prelude.{◌≡◌, ℕ, ◌+◌, ◌*◌, ◌<◌, ◌≤◌, Bool, true, false, not, List, [], ◌∷◌, ◌++◌, length, Some, None, sum_by, Option}
-use Rattle.std.specs.List.{AllByRecursion as All}
+use Rattle.std.specs.List.{AllByRecursion}
 use Rattle.records.specs.Fits.{Byte, Two, HighFits}
 use Rattle.semantics.specs.Times.{Fraction, Proper, inside, whole}
 use Rattle.semantics.specs.Trees.{Label, Silent, Hears, Sends, Transition, Location, location_at, Automaton, AutomatonNet}
@@ -37,7 +37,7 @@ pub record PrintedMove (a : Automaton) (b : ℕ) (t : Transition) : Type 0 where
   pub resets_right : t.resets ≡ not (location_at a t.goal).committed
 
 abbrev pub HearsOnly : List Transition → Type 0
-HearsOnly ts = All (λ t. is_move t.label ≡ false) ts
+HearsOnly ts = AllByRecursion (λ t. is_move t.label ≡ false) ts
 
 -- Which moves a location has, committed or not, and by its bound. Location
 abbrev pub LawfulMoves : Automaton → Bool → Option ℕ → List Transition → Type 0
@@ -53,18 +53,18 @@ pub record LawfulLocation (a : Automaton) (l : Location) : Type 0 where
   pub phase_width : Two l.phase
   pub sent_width : Byte l.sent
   pub bound_fits : BoundFits a.scale l.bound  -- Limits
-  pub transitions_fit : All (LawfulTransition (length a.locations) a.scale l.bound) l.transitions
+  pub transitions_fit : AllByRecursion (LawfulTransition (length a.locations) a.scale l.bound) l.transitions
   -- no two hearing transitions share port, value and moment up to the bound: SharedMoment
   pub guards_apart : (p v : ℕ) (t : Fraction) → Proper t → within_bound l.bound t ≡ true → AtMostOne (transition_fits p v t) l.transitions
   pub not_both : l.committed ≡ true → l.bound ≡ None  -- Location
   pub moves_fit : LawfulMoves a l.committed l.bound l.transitions
-  pub hearing_resets : All (λ t. is_move t.label ≡ false → t.resets ≡ true) l.transitions  -- Location
+  pub hearing_resets : AllByRecursion (λ t. is_move t.label ≡ false → t.resets ≡ true) l.transitions  -- Location
 
 pub record LawfulAutomaton (a : Automaton) : Type 0 where
   pub some_scale : 1 ≤ a.scale  -- Limits
   pub scale_fits : a.scale ≤ 1000000  -- Limits
   pub opening_here : a.opening < length a.locations  -- Goals
-  pub locations_fit : All (LawfulLocation a) a.locations
+  pub locations_fit : AllByRecursion (LawfulLocation a) a.locations
 
 abbrev pub location_records : Location → ℕ
 location_records l = 1 + length l.transitions
@@ -79,6 +79,6 @@ pub record LawfulAutomata (a : AutomatonNet) : Type 0 where
   pub some_automaton : 1 ≤ length a.automata  -- as for a model net
   pub few_automata : length a.automata ≤ 16  -- Limits
   pub scale_fits : automaton_scale a ≤ 1000000  -- Scale
-  pub automata_fit : All LawfulAutomaton a.automata
-  pub paths_fit : All (LawfulPath (length a.automata)) a.paths
+  pub automata_fit : AllByRecursion LawfulAutomaton a.automata
+  pub paths_fit : AllByRecursion (LawfulPath (length a.automata)) a.paths
   pub few_records : automata_records a ≤ 2000  -- Head

@@ -1,6 +1,6 @@
 -- Lawful model nets: what the check of a model book asks of its tree. A comment names the fault that a breach is.
 use Rattle.std.specs.Prelude.{◌≡◌, ℕ, ◌+◌, ◌<◌, ◌≤◌, true, ◌&&◌, length, Some, None, sum_by, Option}
-use Rattle.std.specs.List.{AllByRecursion as All}
+use Rattle.std.specs.List.{AllByRecursion}
 use Rattle.records.specs.Fits.{Byte, HighFits}
 use Rattle.semantics.specs.Times.{Fraction, Proper, Order, inside, counts, itself}
 use Rattle.semantics.specs.Trees.{Word, Edge, Phase, endless, lasting, lifetime_of, words_of, edges_of, Station, ModelNet}
@@ -42,9 +42,9 @@ pub record LawfulPhase (o : Order) (n : ℕ) (f : Phase) : Type 0 where
   pub life_fits : SmallLife (lifetime_of f)  -- Limits
   pub next_here : NextHere n f  -- Goals
   pub few_words : length (words_of f) ≤ 4  -- Limits
-  pub words_fit : All LawfulWord (words_of f)
-  pub edges_fit : All (LawfulEdge n) (edges_of f)
-  pub windows_hold : All (WindowHolds o (lifetime_of f)) (edges_of f)  -- EmptyWindow
+  pub words_fit : AllByRecursion LawfulWord (words_of f)
+  pub edges_fit : AllByRecursion (LawfulEdge n) (edges_of f)
+  pub windows_hold : AllByRecursion (WindowHolds o (lifetime_of f)) (edges_of f)  -- EmptyWindow
   -- no two edges share port, value and moment: SharedMoment
   pub edges_apart : (p v : ℕ) (t : Fraction) → Proper t → AtMostOne (edge_fits o (lifetime_of f) p v t) (edges_of f)
 
@@ -52,7 +52,7 @@ pub record LawfulStation (o : Order) (st : Station) : Type 0 where
   pub opening_here : st.opening < length st.phases  -- Goals
   pub few_phases : length st.phases ≤ 200  -- Limits
   pub scale_fits : station_scale st ≤ 1000000  -- Scale
-  pub phases_fit : All (LawfulPhase o (length st.phases)) st.phases
+  pub phases_fit : AllByRecursion (LawfulPhase o (length st.phases)) st.phases
 
 -- how many records a phase with its words and edges takes, a station with its phases, and a model net
 abbrev pub phase_records : Phase → ℕ
@@ -68,6 +68,6 @@ pub record LawfulModel (m : ModelNet) : Type 0 where
   pub some_station : 1 ≤ length m.stations  -- Length and Links: a record is there, and reached; Paths: a path needs a station
   pub few_stations : length m.stations ≤ 16  -- Limits
   pub scale_fits : model_scale m ≤ 1000000  -- Scale
-  pub stations_fit : All (LawfulStation m.order) m.stations
-  pub paths_fit : All (LawfulPath (length m.stations)) m.paths
+  pub stations_fit : AllByRecursion (LawfulStation m.order) m.stations
+  pub paths_fit : AllByRecursion (LawfulPath (length m.stations)) m.paths
   pub few_records : model_records m ≤ 1000  -- Head

@@ -1,7 +1,7 @@
 -- Laws of scales, stance numbers and meanings, each on the contract of a function.
 use Rattle.std.specs.Prelude.{◌≡◌, ℕ, ◌*◌, ◌<◌, ◌≤◌, List}
 use Rattle.std.specs.Int.{◌∣◌}
-use Rattle.std.specs.List.{AllByRecursion as All}
+use Rattle.std.specs.List.{AllByRecursion}
 use Rattle.semantics.specs.Trees.{ModelNet, AutomatonNet}
 use Rattle.semantics.specs.Scales.{lcm_all}
 use Rattle.semantics.specs.Machine.{StationMeaning, SoundStation, Meaning, Sound, net_scale, gear, geared}
@@ -13,8 +13,8 @@ use Rattle.semantics.specs.LawfulAutomata.{LawfulAutomata}
 -- A scale is the least common multiple of the nonzero numbers among ds.
 pub record LeastCommon (ds : List ℕ) (scale : ℕ) : Type 0 where
   pub some : 1 ≤ scale
-  pub common : All (λ d. 1 ≤ d → d ∣ scale) ds
-  pub least : (c : ℕ) → 1 ≤ c → All (λ d. 1 ≤ d → d ∣ c) ds → scale ≤ c
+  pub common : AllByRecursion (λ d. 1 ≤ d → d ∣ scale) ds
+  pub least : (c : ℕ) → 1 ≤ c → AllByRecursion (λ d. 1 ≤ d → d ∣ c) ds → scale ≤ c
 
 abbrev pub ScalesAreLeast : Type 0
 ScalesAreLeast = (ds : List ℕ) → LeastCommon ds (lcm_all 1 ds)
@@ -33,7 +33,7 @@ pub record MeaningsAreSound : Type 0 where
 -- Gearing keeps soundness; and a sound machine is geared exactly to its net scale.
 pub record GearingKeepsSound : Type 0 where
   pub one_station : (f : ℕ) (m : StationMeaning) → 1 ≤ f → m.scale * f ≤ 1000000 → SoundStation m → SoundStation (gear f m)
-  pub to_net_scale : (ms : Meaning) → Sound ms → All (λ m. m.scale ≡ net_scale ms) (geared ms)
+  pub to_net_scale : (ms : Meaning) → Sound ms → AllByRecursion (λ m. m.scale ≡ net_scale ms) (geared ms)
   pub whole_machine : (ms : Meaning) → Sound ms → net_scale ms ≤ 1000000 → Sound (geared ms)
   -- the parts per tick that may be asked of a geared station are those that it may ask below
   pub parts_alike : (f q : ℕ) (m : StationMeaning) → 1 ≤ f → 1 ≤ m.scale → parts_fit (gear f m) q ≡ parts_fit m (q * f)

@@ -1,7 +1,7 @@
 -- The station machine: what any machine means, when a meaning is sound, and gearing.
 use Rattle.std.specs.Prelude.{◌≡◌, ℕ, ◌*◌, ◌/◌, ◌≤◌, Bool, true, false, ◌↔◌, List, map, length, Some, None, Option, slice_index_or}
 use Rattle.std.specs.Option.{option_map}
-use Rattle.std.specs.List.{AllByRecursion as All}
+use Rattle.std.specs.List.{AllByRecursion}
 pub use Rattle.semantics.specs.declared.state.Move.{Move}
 use Rattle.semantics.specs.Trees.{Word}
 use Rattle.semantics.specs.Scales.{lcm_all}
@@ -65,7 +65,7 @@ pub record SoundStation (m : StationMeaning) : Type 0 where
 pub record Sound (ms : Meaning) : Type 0 where
   pub some_station : 1 ≤ length ms
   pub few_stations : length ms ≤ 16
-  pub stations : All SoundStation ms
+  pub stations : AllByRecursion SoundStation ms
 
 -- Gearing: the same station in ticks f times as fine. Scale and lifetimes are f times those below, and p parts per tick
 -- are asked below as p × f.

@@ -1,7 +1,7 @@
 -- The rules of a model station: a phase, the words sent, and an age in seconds that is compared with the book's own
 -- fractions.
 use Rattle.std.specs.Prelude.{◌≡◌, ℕ, suc, ◌<◌, Bool, true, false, ◌&&◌, ◌⊎◌, List, [], ◌∷◌, length, drop, Some, None, Option, ◌==◌, nat_lt}
-use Rattle.std.specs.List.{AllByRecursion as All}
+use Rattle.std.specs.List.{AllByRecursion}
 use Rattle.semantics.specs.Times.{Fraction, at_most, same_time, plus, over, zero_time, Order}
 use Rattle.semantics.specs.Trees.{Word, Phase, endless, lasting, lifetime_of, edges_of, phase_at, ModelNet, station_at}
 use Rattle.semantics.specs.Scales.{model_scale}
@@ -60,7 +60,7 @@ model_rules o scale phases = record {
       (edges_of (phase_at phases x.phase));
   Deaf = λ x p v.
       (0 < x.sent)
-      ⊎ All (λ e. edge_fits o (lifetime_of (phase_at phases x.phase)) p v x.age e ≡ false)
+      ⊎ AllByRecursion (λ e. edge_fits o (lifetime_of (phase_at phases x.phase)) p v x.age e ≡ false)
       (edges_of (phase_at phases x.phase));
   Moves = λ x w y. Leaves (phase_at phases x.phase) x w y;
 }

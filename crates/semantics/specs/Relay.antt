@@ -20,8 +20,8 @@ abbrev pub sends : ℕ → ℕ → Word
 sends port value = record { port = port; value = value }
 
 abbrev pub path : ℕ → ℕ → ℕ → ℕ → Path
-path sender sender-port hearer hearer-port =
-    record { sender = sender; sender_port = sender-port; hearer = hearer; hearer_port = hearer-port }
+path sender sender_port hearer hearer_port =
+    record { sender = sender; sender_port = sender_port; hearer = hearer; hearer_port = hearer_port }
 
 -- The relay. Phase 1 is endless and hears port 1, values 5 to 9, from 0 on, into phase 2. Phase 2 lasts 3/2 s and sends
 -- 7 and 8 on port 2; then phase 1 follows.
@@ -40,7 +40,7 @@ relay = record {
 
 -- Its session, with so many parts for three net ticks. The call that makes the net has its slots too; 6 are enough.
 abbrev pub session : ℕ → List Call
-session three-ticks = word 1 5 6 ∷ wait three-ticks ∷ step 6 ∷ step 6 ∷ []
+session three_ticks = word 1 5 6 ∷ wait three_ticks ∷ step 6 ∷ step 6 ∷ []
 
 abbrev pub heard : List Event
 heard = event Arrival 1 1 5 ∷ event External 1 0 2 ∷ []

@@ -32,7 +32,7 @@ use Rattle.stepping.proofs.Geared.{paths_good, long, gear_at, some_factor, stead
 use Rattle.stepping.proofs.Settled.{run_one}
 use Rattle.stepping.specs.Progress.{Goes_on}
 use Rattle.stepping.proofs.Timely.{left_sure}
-use Rattle.stepping.proofs.Progress.{progress as goes-on-by, start_sure}
+use Rattle.stepping.proofs.Progress.{progress as goes_on_by, start_sure}
 use Rattle.stepping.specs.Determined.{OneRun}
 use Rattle.stepping.proofs.AutomatonSuits.{InPlace, automaton_settled, zero_within, Sited, automaton_forth, automaton_back}
 
@@ -214,5 +214,5 @@ module _ (a : AutomatonNet) (law : LawfulAutomata a) (q : ℕ) (some : 1 ≤ q) 
       let r = left_stood (geared ms) q a.order a.paths some (steady ms sound) (rules_of a) S forth back calls start (opening_state a) (start_whole ms sound a.paths a.order q) start_stands in
       let here = of_at (left a q calls) σ r.1.0 r.1.1 stood in
       subst (λ k. Goes_on (Run (rules_of a) k a.order a.paths) σ) all
-      (goes-on-by (geared ms) q a.order a.paths some (steady ms sound) (rules_of a) S forth fine (left a q calls)
+      (goes_on_by (geared ms) q a.order a.paths some (steady ms sound) (rules_of a) S forth fine (left a q calls)
       (left_sure (geared ms) q (steady ms sound) a.order a.paths calls start (start_sure ms sound a.paths a.order q)) σ here)

@@ -2,7 +2,7 @@
 use Rattle.std.proofs.Common.{◌≡◌, ℕ, ◌+◌, ◌*◌, ◌<◌, ◌≤◌, Bool, true, false, cond, not, ◌&&◌, eqb, leb, ◌⊎◌, List, [], ◌∷◌, ◌++◌, length, get_or, Some, None, Option, sym, refl, ap, ◌∙◌, subst, inl, inr, arith}
 use native.Mathlib.Nat.{one-le-mul}
 use Rattle.std.specs.Option.{option_map}
-use Rattle.std.specs.List.{AllByRecursion as All}
+use Rattle.std.specs.List.{AllByRecursion}
 use Rattle.std.proofs.ByRecursion.{All-get_or, All-weaker}
 use Rattle.std.proofs.lemmas.Bool.{and_parts, le-leb, eqb-true}
 use Rattle.semantics.specs.Times.{Fraction, fraction, Proper, same_time, plus, over, whole, zero_time, inside}
@@ -146,7 +146,7 @@ module _ (L : ℕ) (a : Automaton) (law : LawfulAutomaton a) (geared : 1 ≤ fac
   abbrev ts_at : AutomatonState → List Transition
   ts_at y = (location_at a y.location).transitions
 
-  all_true : {X : Type 0} (R : X → Type 0) → ((x : X) → R x) → (xs : List X) → All R xs
+  all_true : {X : Type 0} (R : X → Type 0) → ((x : X) → R x) → (xs : List X) → AllByRecursion R xs
   all_true R h [] = tt
   all_true R h (x ∷ xs) = (h x, all_true R h xs)
 
@@ -258,14 +258,14 @@ module _ (L : ℕ) (a : Automaton) (law : LawfulAutomaton a) (geared : 1 ≤ fac
   ready : (y : AutomatonState) → y.location < length a.locations → (P.busy y ≡ true) ⊎ (P.due y ≡ true) → Ready y
   ready y l r = ready_core y (location_at a y.location).committed (location_at a y.location).bound (location_law y.location l).moves_fit r
 
-  all_last : (R : Transition → Type 0) (hs : List Transition) (t : Transition) → All R (hs ++ (t ∷ [])) → R t
+  all_last : (R : Transition → Type 0) (hs : List Transition) (t : Transition) → AllByRecursion R (hs ++ (t ∷ [])) → R t
   all_last R [] t h = h.0
   all_last R (x ∷ hs) t h = all_last R hs t h.1
 
   ready_goal : (y : AutomatonState) → y.location < length a.locations → (r : Ready y) → r.move.goal < length a.locations
   ready_goal y l r =
       all_last (λ t. t.goal < length a.locations) r.before r.move
-      (subst (All (λ t. t.goal < length a.locations)) r.is
+      (subst (AllByRecursion (λ t. t.goal < length a.locations)) r.is
       (All-weaker (LawfulTransition (length a.locations) a.scale (location_at a y.location).bound) _ (λ t h. h.goal_here) (ts_at y) (location_law y.location l).transitions_fit))
 
   -- where it lands

@@ -4,7 +4,7 @@ use Prim.Native.Nat.{◌∣◌}
 use native.Mathlib.Nat.{div-mul_cancel}
 use lib.ListN.{length-map}
 use Rattle.std.specs.Option.{option_map}
-use Rattle.std.specs.List.{AllByRecursion as All}
+use Rattle.std.specs.List.{AllByRecursion}
 use Rattle.std.proofs.ByRecursion.{All-get_or, All-from_get_or, All-weaker}
 use Rattle.std.proofs.lemmas.List.{get_or-map}
 use Rattle.std.proofs.lemmas.Bool.{le-ltb, lt-ltb, ne_eqb, or_from}
@@ -18,11 +18,11 @@ use Rattle.semantics.specs.Calls.{make, at_zero, first_bad, bad_path, bad_paths,
 use Rattle.semantics.proofs.Lcm.{least_common}
 use Rattle.stepping.proofs.Whole.{SteadyStance, Steady, Whole}
 
-pub none_bad : {A : Type 0} (bad : A → Bool) (k : ℕ) (xs : List A) → All (λ x. bad x ≡ false) xs → first_bad bad k xs ≡ None
+pub none_bad : {A : Type 0} (bad : A → Bool) (k : ℕ) (xs : List A) → AllByRecursion (λ x. bad x ≡ false) xs → first_bad bad k xs ≡ None
 none_bad bad k [] h = refl
 none_bad bad k (x ∷ xs) h = ap (λ b. cond b (Some k) (first_bad bad (suc k) xs)) h.0 ∙ none_bad bad (suc k) xs h.1
 
-pub paths_good : (n : ℕ) (ps : List Path) → All (LawfulPath n) ps → bad_paths n ps ≡ None
+pub paths_good : (n : ℕ) (ps : List Path) → AllByRecursion (LawfulPath n) ps → bad_paths n ps ≡ None
 paths_good n ps h =
     none_bad (bad_path n) 1 ps
     (All-weaker (LawfulPath n) _
@@ -46,7 +46,7 @@ gear_steady f m x h = record {
   rests = λ e. ((h.rests.0 e).0, endless_too f x.lifetime (h.rests.0 e).1);
 }
 
-scale_at : (P : ℕ → Type 0) (ms : Meaning) → All P (map (λ m. m.scale) ms) → (i : ℕ) → i < length ms → P (meaning_at ms i).scale
+scale_at : (P : ℕ → Type 0) (ms : Meaning) → AllByRecursion P (map (λ m. m.scale) ms) → (i : ℕ) → i < length ms → P (meaning_at ms i).scale
 scale_at P [] h i l = absurd (omega arith)
 scale_at P (m ∷ ms) h zero l = h.0
 scale_at P (m ∷ ms) h (suc i) l = scale_at P ms h.1 i (omega arith)

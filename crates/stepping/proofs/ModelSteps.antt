@@ -30,7 +30,7 @@ use Rattle.stepping.proofs.Geared.{paths_good, scaled, long, gear_at, exact, som
 use Rattle.stepping.proofs.Settled.{run_one}
 use Rattle.stepping.specs.Progress.{Goes_on}
 use Rattle.stepping.proofs.Timely.{left_sure}
-use Rattle.stepping.proofs.Progress.{progress as goes-on-by, start_sure}
+use Rattle.stepping.proofs.Progress.{progress as goes_on_by, start_sure}
 use Rattle.stepping.specs.Determined.{OneRun}
 use Rattle.stepping.proofs.ModelSuits.{InPlace, model_settled, stance_phase, stance_sent, SitsAt, fresh_sits, at_stance, model_forth, model_back}
 
@@ -208,5 +208,5 @@ module _ (m : ModelNet) (law : LawfulModel m) (q : ℕ) (some : 1 ≤ q) where
       let r = left_stood (geared ms) q m.order m.paths some (steady ms sound) (rules_of m) S forth back calls start (λ i. fresh (st i).opening) (start_whole ms sound m.paths m.order q) start_stands in
       let here = of_stands (left m q calls) σ r.1.0 r.1.1 stood in
       subst (λ k. Goes_on (Run (rules_of m) k m.order m.paths) σ) all
-      (goes-on-by (geared ms) q m.order m.paths some (steady ms sound) (rules_of m) S forth fine (left m q calls)
+      (goes_on_by (geared ms) q m.order m.paths some (steady ms sound) (rules_of m) S forth fine (left m q calls)
       (left_sure (geared ms) q (steady ms sound) m.order m.paths calls start (start_sure ms sound m.paths m.order q)) σ here)

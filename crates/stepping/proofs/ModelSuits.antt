@@ -2,7 +2,7 @@
 use Rattle.std.proofs.Common.{◌≡◌, ℕ, zero, suc, ◌+◌, ◌*◌, ◌<◌, ◌≤◌, Bool, true, false, cond, not, ◌&&◌, eqb, ltb, ◌⊎◌, List, [], ◌∷◌, length, get_or, drop, Some, None, Option, sym, refl, ap, ◌∙◌, subst, ap₂, inl, inr, arith, length-drop}
 use Prim.Native.Nat.{◌∣◌}
 use native.Mathlib.Nat.{one-le-mul}
-use Rattle.std.specs.List.{AllByRecursion as All}
+use Rattle.std.specs.List.{AllByRecursion}
 use Rattle.std.proofs.ByRecursion.{All-get_or, All-weaker}
 use Rattle.std.proofs.lemmas.Bool.{lt-ltb, ne_eqb}
 use Rattle.records.specs.Fits.{HighFits}
@@ -131,7 +131,7 @@ module _ (o : Order) (L : ℕ) (st : Station) (law : LawfulStation o st) (scaled
   phase_law : (i : ℕ) → i < length st.phases → LawfulPhase o (length st.phases) (at i)
   phase_law i l = All-get_or (LawfulPhase o (length st.phases)) st.phases i blank_phase l law.phases_fit
 
-  life_in_ticks : (l : Option Fraction) → SmallLife l → All (λ d. 1 ≤ d → d ∣ s) (life_denominators l) → InTicks s l
+  life_in_ticks : (l : Option Fraction) → SmallLife l → AllByRecursion (λ d. 1 ≤ d → d ∣ s) (life_denominators l) → InTicks s l
   life_in_ticks None h k = tt
   life_in_ticks (Some t) h k = (h.proper, k.0 h.proper)
 
@@ -139,7 +139,7 @@ module _ (o : Order) (L : ℕ) (st : Station) (law : LawfulStation o st) (scaled
   in_ticks i l =
       life_in_ticks (lifetime_of (at i)) (phase_law i l).life_fits
       (all_left _ (life_denominators (lifetime_of (at i))) _
-      (All-get_or (λ x. All (λ d. 1 ≤ d → d ∣ s) (phase_denominators x)) st.phases i blank_phase l
+      (All-get_or (λ x. AllByRecursion (λ d. 1 ≤ d → d ∣ s) (phase_denominators x)) st.phases i blank_phase l
       (all_joined (λ d. 1 ≤ d → d ∣ s) phase_denominators st.phases (least_common _).common)))
 
   abbrev stance_of : ℕ → Stance

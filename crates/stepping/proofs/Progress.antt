@@ -14,14 +14,14 @@ use Rattle.semantics.proofs.Simulation.{Follows, does_too}
 use Rattle.stepping.proofs.Bridge.{InParts}
 use Rattle.stepping.proofs.Whole.{Steady}
 use Rattle.stepping.proofs.Geared.{long, steady, start_at, start_whole}
-use Rattle.stepping.proofs.Timely.{fresh_on, Timely, Sure, call_sure, goes_on as net-goes-on}
+use Rattle.stepping.proofs.Timely.{fresh_on, Timely, Sure, call_sure, goes_on as net_goes_on}
 use Rattle.stepping.proofs.AnyMachine.{forth}
 
 module _ (ms : Meaning) (q : ℕ) (o : Order) (paths : List Path) (some : 1 ≤ q) (steady : Steady ms) {X : Type 0} (B : ℕ → Rules X) (S : ℕ → StationState → X → Type 0)
     (suits : (i : ℕ) → i < length ms → Follows (InParts q) (station_rules q (meaning_at ms i)) (B i) (S i)) where
   pub progress : bad_paths (length ms) paths ≡ None → (s : NetState) → Sure ms q steady o s → (σ : ℕ → X) → ((i : ℕ) → i < length ms → S i (state_at s.stations i) (σ i)) →
       Goes_on (Run B (length ms) o paths) σ
-  progress fine s sure σ stood = elim (net-goes-on ms q steady o some paths fine s sure) [
+  progress fine s sure σ stood = elim (net_goes_on ms q steady o some paths fine s sure) [
     | inl x ↦
         (let t = does_too (InParts q) (λ i. station_rules q (meaning_at ms i)) B (length ms) S suits o paths σ stood tt x.1.1 in
         inl (x.0 ++ [], (t.0, goes_on t.1.0 ended)))

@@ -3,7 +3,7 @@ use Rattle.std.proofs.Common.{◌≡◌, ℕ, ◌+◌, ◌*◌, ◌/◌, ◌≤�
 use Prim.Native.Nat.{◌∣◌}
 use native.Mathlib.Nat.{one-le-mul, div-mul_cancel, dvd-mul_left_of_dvd}
 use Rattle.std.specs.Option.{option_map}
-use Rattle.std.specs.List.{flat_map, AllByRecursion as All}
+use Rattle.std.specs.List.{flat_map, AllByRecursion}
 use Rattle.semantics.specs.Times.{Fraction, fraction, Proper, plus, over}
 use Rattle.semantics.specs.Scales.{ticks, life_ticks}
 use Rattle.semantics.specs.Fits.{within_bound}
@@ -13,15 +13,15 @@ use Rattle.semantics.specs.OneTime.{AreOneTime}
 use Rattle.semantics.proofs.OneTime.{cross_leb, cross_eqb}
 use Rattle.stepping.specs.StationRules.{parts_in}
 
-pub all_left : {X : Type 0} (P : X → Type 0) (xs ys : List X) → All P (xs ++ ys) → All P xs
+pub all_left : {X : Type 0} (P : X → Type 0) (xs ys : List X) → AllByRecursion P (xs ++ ys) → AllByRecursion P xs
 all_left P [] ys h = tt
 all_left P (x ∷ xs) ys h = (h.0, all_left P xs ys h.1)
 
-all_right : {X : Type 0} (P : X → Type 0) (xs ys : List X) → All P (xs ++ ys) → All P ys
+all_right : {X : Type 0} (P : X → Type 0) (xs ys : List X) → AllByRecursion P (xs ++ ys) → AllByRecursion P ys
 all_right P [] ys h = h
 all_right P (x ∷ xs) ys h = all_right P xs ys h.1
 
-pub all_joined : {X Y : Type 0} (P : Y → Type 0) (f : X → List Y) (xs : List X) → All P (flat_map f xs) → All (λ x. All P (f x)) xs
+pub all_joined : {X Y : Type 0} (P : Y → Type 0) (f : X → List Y) (xs : List X) → AllByRecursion P (flat_map f xs) → AllByRecursion (λ x. AllByRecursion P (f x)) xs
 all_joined P f [] h = tt
 all_joined P f (x ∷ xs) h = (all_left P (f x) (flat_map f xs) h, all_joined P f xs (all_right P (f x) (flat_map f xs) h))
 

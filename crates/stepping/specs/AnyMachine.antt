@@ -9,7 +9,7 @@ use Rattle.semantics.specs.Events.{Event}
 use Rattle.semantics.specs.Net.{Net, NetState, state_at}
 use Rattle.semantics.specs.Calls.{make, Call, bad_paths, answer_call}
 use Rattle.stepping.specs.StationRules.{NetRun, Shown}
-use Rattle.stepping.specs.Obeys.{acts_of, Steps-by}
+use Rattle.stepping.specs.Obeys.{acts_of, StepsBy}
 use Rattle.stepping.specs.Declines.{Declines}
 
 -- The states that calls lead to, obeyed or declined, each with paths of its own.
@@ -35,7 +35,7 @@ ReachedAreKnown = (ms : Meaning) → Sound ms → (ps : List Path) (o : Order) (
 -- paths, a call is declined with a fault at a place exactly where that refusal's condition is the first that holds, there.
 pub record KeepsRules (net : Net) (s : NetState) : Type 0 where
   pub steps : (paths : List Path) → bad_paths (length net.stations) paths ≡ None → (cs : List Call) (es : List Event) →
-      Steps-by net paths s cs es (NetRun net paths (state_at s.stations) (acts_of net.parts cs) es) (λ t ρ. Shown (length net.stations) ρ t.stations)
+      StepsBy net paths s cs es (NetRun net paths (state_at s.stations) (acts_of net.parts cs) es) (λ t ρ. Shown (length net.stations) ρ t.stations)
   pub declines : (paths : List Path) (c : Call) (f : Fault) (k : ℕ) →
       ((answer_call net paths c s).answer ≡ Err (refused f k)) ↔ Declines net paths s c f k
 

@@ -9,7 +9,7 @@ use Rattle.semantics.specs.Calls.{Call, left_by}
 use Rattle.semantics.specs.AutomatonRules.{AutomatonState, AutomatonRun}
 use Rattle.semantics.specs.LawfulAutomata.{LawfulAutomata}
 use Rattle.semantics.specs.Faithful.{automata_made, AutomataStand, automaton_start}
-use Rattle.stepping.specs.Obeys.{acts_of, Steps-by}
+use Rattle.stepping.specs.Obeys.{acts_of, StepsBy}
 
 module _ (a : AutomatonNet) (q : ℕ) where
   abbrev pub net_of : Net
@@ -41,7 +41,7 @@ pub record AutomatonSteps (a : AutomatonNet) (q : ℕ) (calls : List Call) : Typ
   pub stands : AutomataAt a q (left a q calls) (automaton_start a q (left a q calls))
   -- from there, and from any states that stand so, the net steps by the automaton rules
   pub steps : (σ : ℕ → AutomatonState) → AutomataAt a q (left a q calls) σ → (cs : List Call) (es : List Event) →
-      Steps-by (net_of a q) a.paths (left a q calls) cs es (AutomatonRun a σ (acts_of q cs) es) (AutomataAt a q)
+      StepsBy (net_of a q) a.paths (left a q calls) cs es (AutomatonRun a σ (acts_of q cs) es) (AutomataAt a q)
 
 -- for every lawful automaton net and all parts that a making takes
 abbrev pub AutomatonNetsStep : Type 0

@@ -8,7 +8,7 @@ use Rattle.semantics.specs.Calls.{Call, left_by}
 use Rattle.semantics.specs.ModelRules.{ModelState, fresh, ModelRun}
 use Rattle.semantics.specs.LawfulModels.{LawfulModel}
 use Rattle.semantics.specs.Faithful.{model_made, ModelStands, model_start}
-use Rattle.stepping.specs.Obeys.{acts_of, Steps-by}
+use Rattle.stepping.specs.Obeys.{acts_of, StepsBy}
 
 -- the net of the tree with q parts to a net tick, and the state that calls leave after its making
 module _ (m : ModelNet) (q : ℕ) where
@@ -32,7 +32,7 @@ pub record ModelSteps (m : ModelNet) (q : ℕ) (calls : List Call) : Type 0 wher
   pub stands : ModelStands m q (left m q calls) (model_start m q (left m q calls))
   -- from there, and from any states that the stations tell so, the net steps by the model's rules
   pub steps : (σ : ℕ → ModelState) → ModelStands m q (left m q calls) σ → (cs : List Call) (es : List Event) →
-      Steps-by (net_of m q) m.paths (left m q calls) cs es (ModelRun m σ (acts_of q cs) es) (ModelStands m q)
+      StepsBy (net_of m q) m.paths (left m q calls) cs es (ModelRun m σ (acts_of q cs) es) (ModelStands m q)
 
 -- for every lawful model net and all parts that a making takes
 abbrev pub ModelNetsStep : Type 0

@@ -38,6 +38,6 @@ module _ (net : Net) (paths : List Path) where
 
   -- From the state s the calls are obeyed, with these events, exactly where their acts are allowed; and the states that
   -- both then come to correspond. Only for the way back must there be room and a total in range.
-  pub record Steps-by {X : Type 0} (s : NetState) (cs : List Call) (es : List Event) (Allowed : (ℕ → X) → Type 0) (Stands : NetState → (ℕ → X) → Type 0) : Type 0 where
+  pub record StepsBy {X : Type 0} (s : NetState) (cs : List Call) (es : List Event) (Allowed : (ℕ → X) → Type 0) (Stands : NetState → (ℕ → X) → Type 0) : Type 0 where
     pub obeyed_allowed : AllObeyed cs s es → (τ : ℕ → X) × (Allowed τ × Stands (left_by net paths cs s) τ)
     pub allowed_obeyed : AllEnough cs s → (τ : ℕ → X) → Allowed τ → AllObeyed cs s es × Stands (left_by net paths cs s) τ

@@ -1,6 +1,6 @@
 -- A book passes exactly if it is sound.
 use Rattle.std.proofs.Common.{◌≡◌, ℕ, ◌+◌, ◌≤◌, Bool, true, false, cond, not, eqb, ltb, ◌⊎◌, List, [], ◌∷◌, length, is_some, Some, None, sym, refl, ap, ◌∙◌, inl, inr, ⊎_elim, arith}
-use Rattle.std.specs.List.{AllByRecursion as All}
+use Rattle.std.specs.List.{AllByRecursion}
 use Rattle.std.proofs.lemmas.Bool.{or_parts, or_from, and_cases, and_left, and_right, not-false, not_from_true, not_from_false, eqb-true, eqb-false, eq-eqb, ne_eqb, ltb-false, le-ltb, both_ways, cases_eq}
 use Rattle.book.specs.Bytes.{at, row}
 use Rattle.book.specs.Terms.{book_byte, book_of_byte, most_records, order_byte, order_of_byte}
@@ -58,11 +58,11 @@ module _ (b : List ℕ) (n : ℕ) where
       (λ fine. and_right (not (eqb l.to 0)) _ (or_from (ltb n l.to) _ (le-ltb n l.to fine.0) (not_from_true _ (eq-eqb _ _ fine.1))))
       r
 
-  all_right : (ls : List Link) → some_link (wrong_link b n) ls ≡ false → All (Right b n) ls
+  all_right : (ls : List Link) → some_link (wrong_link b n) ls ≡ false → AllByRecursion (Right b n) ls
   all_right [] e = tt
   all_right (l ∷ ls) e = let parts = or_parts (wrong_link b n l) _ e in (right_from l parts.0, all_right ls parts.1)
 
-  none_wrong : (ls : List Link) → All (Right b n) ls → some_link (wrong_link b n) ls ≡ false
+  none_wrong : (ls : List Link) → AllByRecursion (Right b n) ls → some_link (wrong_link b n) ls ≡ false
   none_wrong [] a = refl
   none_wrong (l ∷ ls) a = or_from (wrong_link b n l) _ (right_to l a.0) (none_wrong ls a.1)
 
@@ -79,7 +79,7 @@ module _ (links : ℕ → List Link) (b : List ℕ) (n : ℕ) where
   abbrev seen : List ℕ
   seen = reached links n
 
-  linked_right : (i : ℕ) → ill_linked links b n seen i ≡ false → All (Right b n) (links i)
+  linked_right : (i : ℕ) → ill_linked links b n seen i ≡ false → AllByRecursion (Right b n) (links i)
   linked_right i e = all_right b n (links i) (or_parts (some_link (wrong_link b n) (links i)) _ e).0
 
   linked_there : (i : ℕ) → ill_linked links b n seen i ≡ false → 1 ≤ i → (named_from links i (n + 1) 0 ≡ 1) × Reached links n i
@@ -93,7 +93,7 @@ module _ (links : ℕ → List Link) (b : List ℕ) (n : ℕ) where
       (eqb-true _ 1 (not-false _ parts.0), ((reach_is_least links n).lists i).0 (not-false _ parts.1)))
       (and_cases (not (eqb i 0)) _ later)
 
-  links_right : (i : ℕ) → All (Right b n) (links i) → (1 ≤ i → (named_from links i (n + 1) 0 ≡ 1) × Reached links n i) → ill_linked links b n seen i ≡ false
+  links_right : (i : ℕ) → AllByRecursion (Right b n) (links i) → (1 ≤ i → (named_from links i (n + 1) 0 ≡ 1) × Reached links n i) → ill_linked links b n seen i ≡ false
   links_right i right there =
       or_from (some_link (wrong_link b n) (links i)) _ (none_wrong b n (links i) right)
       (⊎_elim

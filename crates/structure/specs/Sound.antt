@@ -1,6 +1,6 @@
 -- What a book is whose structure is right, in the subject's own words.
 use Rattle.std.specs.Prelude.{◌≡◌, ℕ, ◌+◌, ◌*◌, ◌≤◌, true, ◌⊎◌, List, length, Ok}
-use Rattle.std.specs.List.{AllByRecursion as All}
+use Rattle.std.specs.List.{AllByRecursion}
 use Rattle.book.specs.Bytes.{at, row}
 use Rattle.book.specs.Terms.{book_byte, most_records, order_byte, kind_byte}
 use Rattle.book.specs.declared.term.BookKind.{BookKind}
@@ -30,7 +30,7 @@ pub record Sound (b : List ℕ) (kind : BookKind) : Type 0 where
   pub few_records : told_records b ≤ most_records kind
   pub head_is_laid : head_laid (row b 0) ≡ true
   pub each_laid : (k : ℕ) → 1 ≤ k → k ≤ told_records b → laid_in kind (row b k) ≡ true
-  pub each_right : (k : ℕ) → k ≤ told_records b → All (Right b (told_records b)) (links_at kind b k)
+  pub each_right : (k : ℕ) → k ≤ told_records b → AllByRecursion (Right b (told_records b)) (links_at kind b k)
   -- by all index fields, the head's among them
   pub each_named_once : (k : ℕ) → 1 ≤ k → k ≤ told_records b → named_from (links_at kind b) k (told_records b + 1) 0 ≡ 1
   pub each_reached : (k : ℕ) → 1 ≤ k → k ≤ told_records b → Reached (links_at kind b) (told_records b) k

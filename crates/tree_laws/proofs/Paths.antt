@@ -1,6 +1,6 @@
 -- Paths: none is wrong exactly if each is lawful.
 use Rattle.std.proofs.Common.{◌≡◌, ℕ, ◌≤◌, Bool, false, eqb, ltb, ◌↔◌, List, [], ◌∷◌, ◌++◌, map, length, None, sym, ap, subst, arith}
-use Rattle.std.specs.List.{flat_map, AllByRecursion as All}
+use Rattle.std.specs.List.{flat_map, AllByRecursion}
 use Rattle.std.proofs.ByRecursion.{all-has}
 use Rattle.std.proofs.lemmas.Bool.{ltb-false, le-ltb, eqb-false, ne_eqb}
 use Rattle.book.specs.Bytes.{two}
@@ -38,7 +38,7 @@ module _ (b : List ℕ) (bytes : Bytes b) (few : ltb 2000 (whole_records b) ≡ 
   each_path : (n k : ℕ) → wrong_path n (path_at b k) ≡ false ↔ LawfulPath n (path_at b k)
   each_path n k = path_right n (path_at b k) (rest_byte b bytes k 1) (rest_byte b bytes k 3)
 
-  pub paths_right : smallest (path_faults b) ≡ None ↔ All (LawfulPath (length (stations_in b))) (map (path_at b) (paths_in b))
+  pub paths_right : smallest (path_faults b) ≡ None ↔ AllByRecursion (LawfulPath (length (stations_in b))) (map (path_at b) (paths_in b))
   paths_right =
       let n = length (stations_in b) in
       let wrong : ℕ → ℕ → Bool = λ m k. wrong_path m (path_at b k) in
@@ -47,16 +47,16 @@ module _ (b : List ℕ) (bytes : Bytes b) (few : ltb 2000 (whole_records b) ≡ 
       let none = smallest_none (path_faults b) in
       let test = along_test (wrong (length (stations b))) 0 (paths b) in (
         λ e.
-            let all = subst (All (λ k. wrong n k ≡ false)) chain (subst (λ m. All (λ k. wrong m k ≡ false) (paths b)) count (test.0 (none.0 e))) in
+            let all = subst (AllByRecursion (λ k. wrong n k ≡ false)) chain (subst (λ m. AllByRecursion (λ k. wrong m k ≡ false) (paths b)) count (test.0 (none.0 e))) in
             all_mapped (LawfulPath n) (path_at b) (paths_in b) (λ k hk. (each_path n k).0 (all-has (λ x. wrong n x ≡ false) (paths_in b) k all hk)),
         λ h.
-            let all : All (λ k. wrong n k ≡ false) (paths_in b) =
+            let all : AllByRecursion (λ k. wrong n k ≡ false) (paths_in b) =
             all_members (λ k. wrong n k ≡ false) (paths_in b) (λ k hk. (each_path n k).1 (mapped_has (LawfulPath n) (path_at b) (paths_in b) h k hk)) in
-            none.1 (test.1 (subst (λ m. All (λ k. wrong m k ≡ false) (paths b)) (sym count) (subst (All (λ k. wrong n k ≡ false)) (sym chain) all))),
+            none.1 (test.1 (subst (λ m. AllByRecursion (λ k. wrong m k ≡ false) (paths b)) (sym count) (subst (AllByRecursion (λ k. wrong n k ≡ false)) (sym chain) all))),
       )
 
 -- a path needs a station
-pub some_station : (own : ℕ → List ℕ) (path : ℕ → Path) (ss ks : List ℕ) → 1 ≤ length (flat_map own ss ++ ks) → All (LawfulPath (length ss)) (map path ks) → 1 ≤ length ss
+pub some_station : (own : ℕ → List ℕ) (path : ℕ → Path) (ss ks : List ℕ) → 1 ≤ length (flat_map own ss ++ ks) → AllByRecursion (LawfulPath (length ss)) (map path ks) → 1 ≤ length ss
 some_station own path [] [] some paths = absurd (omega arith)
 some_station own path [] (k ∷ ks) some paths =
     let sender = paths.0.sender_known in

@@ -1,6 +1,6 @@
 -- The records of a book: their bytes, and what is known of them where the structure is right.
 use Rattle.std.proofs.Common.{◌≡◌, ℕ, ◌+◌, ◌*◌, ◌<◌, ◌≤◌, false, ltb, List, take, drop, sym, ap, ◌∙◌, subst, ap₂, ⊎_elim, arith}
-use Rattle.std.specs.List.{ContainsAt as Has, AllByRecursion as All}
+use Rattle.std.specs.List.{ContainsAt as Has, AllByRecursion}
 use Rattle.std.proofs.lemmas.List.{get_or-drop, get_or-take, get_or_past, length-take}
 use Rattle.std.proofs.ByRecursion.{all-has}
 use Rattle.std.proofs.lemmas.Bool.{cases_lt, le-ltb}
@@ -45,4 +45,4 @@ short b kind s = le-ltb 2000 (whole_records b) (go kind s.few_records)
 -- and no edge of a phase stands twice in its chain
 pub edges_different : (b : List ℕ) (kind : BookKind) → TreeOf b kind → (s : ℕ) → Has (stations_in b) s → (p : ℕ) → Has (phases_in b s) p → Distinct (edges_in b p)
 edges_different b kind tree s hs p hp =
-    all-has (λ x. Distinct (edges_in b x)) (phases_in b s) p (all-has (λ x. All (λ y. Distinct (edges_in b y)) (phases_in b x)) (stations_in b) s tree.edges_apart hs) hp
+    all-has (λ x. Distinct (edges_in b x)) (phases_in b s) p (all-has (λ x. AllByRecursion (λ y. Distinct (edges_in b y)) (phases_in b x)) (stations_in b) s tree.edges_apart hs) hp

@@ -1,6 +1,6 @@
 -- What the check of a book says of its tree, for both kinds of book.
 use Rattle.std.specs.Prelude.{◌≡◌, ℕ, ◌<◌, true, false, ◌↔◌, List, map, length, None, Ok, nat_lt}
-use Rattle.std.specs.List.{AllByRecursion as All}
+use Rattle.std.specs.List.{AllByRecursion}
 use Rattle.book.specs.Chains.{whole_records}
 use Rattle.book.specs.declared.term.BookKind.{BookKind}
 use Rattle.records.specs.Fits.{Bytes}
@@ -21,4 +21,4 @@ pub record LawsOfTrees : Type 0 where
   pub places : (ks : List ℕ) (k : ℕ) → among k ks ≡ true ↔ place_in ks k < length ks
   -- no path is found wrong exactly if every path of the tree is lawful
   pub paths : (b : List ℕ) → Bytes b → nat_lt 2000 (whole_records b) ≡ false →
-      smallest (path_faults b) ≡ None ↔ All (LawfulPath (length (stations_in b))) (map (path_at b) (paths_in b))
+      smallest (path_faults b) ≡ None ↔ AllByRecursion (LawfulPath (length (stations_in b))) (map (path_at b) (paths_in b))

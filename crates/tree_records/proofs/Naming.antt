@@ -1,7 +1,7 @@
 -- A list has no record twice, where each record is named once and reached from the head, and stands in the list no more often
 -- than the head and the records of the list name it.
 use Rattle.std.proofs.Common.{◌≡◌, ℕ, zero, suc, ◌+◌, ◌<◌, ◌≤◌, ◌⊎◌, List, [], ◌∷◌, refl, ap, subst, inl, inr, ⊎_elim, arith}
-use Rattle.std.specs.List.{AllByRecursion as All}
+use Rattle.std.specs.List.{AllByRecursion}
 use Rattle.std.proofs.ByRecursion.{All-weaker}
 use Rattle.std.proofs.lemmas.Bool.{cases_eq, cases_lt, cases_order}
 use Rattle.links.specs.declared.link.Link.{Link}
@@ -55,7 +55,7 @@ module _ (links : ℕ → List Link) where
       (λ (other : i ≡ 0 → ⊥). head_names n i r (omega arith))
       (cases_eq i 0)
 
-  module _ (n : ℕ) (xs : List ℕ) (within : All (λ x. (1 ≤ x) × (x ≤ n)) xs)
+  module _ (n : ℕ) (xs : List ℕ) (within : AllByRecursion (λ x. (1 ≤ x) × (x ≤ n)) xs)
       (once : (k : ℕ) → 1 ≤ k → k ≤ n → named_from links k (n + 1) 0 ≡ 1)
       (few : (k : ℕ) → 1 ≤ k → k ≤ n → count k xs ≤ names k (links 0) + total (λ j. names k (links j)) xs) where
     -- the head stands for itself once, besides the list

@@ -1,6 +1,6 @@
 -- The parts of a book's tree have no record more often than it is named from them and from where they begin.
 use Rattle.std.proofs.Common.{◌≡◌, ℕ, zero, suc, ◌+◌, ◌<◌, ◌≤◌, Bool, true, false, cond, ◌||◌, eqb, ltb, ◌⊎◌, List, [], ◌∷◌, length, refl, ap, ◌∙◌, subst, ⊎_elim, arith}
-use Rattle.std.specs.List.{flat_map, AllByRecursion as All}
+use Rattle.std.specs.List.{flat_map, AllByRecursion}
 use Rattle.std.proofs.lemmas.List.{get_or-take}
 use Rattle.std.proofs.ByRecursion.{All-append, All-weaker}
 use Rattle.std.proofs.lemmas.Bool.{ne_eqb, eqb-false, ltb-false, or_parts, cond-false}
@@ -33,9 +33,9 @@ module _ (next : ℕ → ℕ) (n : ℕ) where
           let low = eqb-false i 0 parts.0 in
           some (omega arith) (ltb-false n i parts.1)
 
-  pub chain_within : (k i : ℕ) → All (λ j. (1 ≤ j) × (j ≤ n)) (chain next n k i)
+  pub chain_within : (k i : ℕ) → AllByRecursion (λ j. (1 ≤ j) × (j ≤ n)) (chain next n k i)
   chain_within zero i = tt
-  chain_within (suc k) i = chain_by (All (λ j. (1 ≤ j) × (j ≤ n))) k i tt (λ low high. ((low, high), chain_within k (next i)))
+  chain_within (suc k) i = chain_by (AllByRecursion (λ j. (1 ≤ j) × (j ≤ n))) k i tt (λ low high. ((low, high), chain_within k (next i)))
 
   pub chain_some : (k i : ℕ) → 1 ≤ k → 1 ≤ i → i ≤ n → 1 ≤ length (chain next n k i)
   chain_some zero i room low high = absurd (omega arith)
@@ -95,9 +95,9 @@ module _ (b : List ℕ) (kind : BookKind) (s : Sound b kind) where
       cond-false (eqb j 0) _ _ (ne_eqb j 0 other)
       ∙ ⊎_elim {C = links_in kind (row b j) ≡ fields what kind (row b j)} (λ z. absurd (other z)) (λ it. fields_are what kind (row b j) it.1) right
 
-  rights_there : (what : Kind) (j : ℕ) → 1 ≤ j → Right b n (link j what) → All (Right b n) (fields what kind (row b j))
+  rights_there : (what : Kind) (j : ℕ) → 1 ≤ j → Right b n (link j what) → AllByRecursion (Right b n) (fields what kind (row b j))
   rights_there what j low right =
-      subst (All (Right b n)) (links_there what j low right) (s.each_right j (⊎_elim (λ z. absurd (omega arith)) (λ it. it.0) right))
+      subst (AllByRecursion (Right b n)) (links_there what j low right) (s.each_right j (⊎_elim (λ z. absurd (omega arith)) (λ it. it.0) right))
 
   module _ (k : ℕ) (some : 1 ≤ k) where
     -- how often record j names k
@@ -117,7 +117,7 @@ module _ (b : List ℕ) (kind : BookKind) (s : Sound b kind) where
         subst (Few i) (joined_single (chain_of b i))
         (chain_counts (λ j. next_index (row b j)) (whole_records b) k names_by (λ j. j ∷ []) (λ j. Right b n (link j what))
         (λ j low high good.
-        let all = subst (All (Right b n)) (only (row b j)) (rights_there what j low good) in
+        let all = subst (AllByRecursion (Right b n)) (only (row b j)) (rights_there what j low good) in
         let is : names_by j ≡ names k (only_next (next_index (row b j)) what) = ap (names k) (links_there what j low good ∙ only (row b j)) in
         (all.0, omega (arith, is, none)))
         (whole_records b) i right)
@@ -131,11 +131,11 @@ phase_names : (k : ℕ) (kind : BookKind) (r : List ℕ) → names k (fields Pha
 phase_names k Model r = refl
 phase_names k Automaton r = refl
 
-phase_rights : (kind : BookKind) (b : List ℕ) (n : ℕ) (r : List ℕ) → All (Right b n) (fields Phase kind r) → Right b n (link (next_index r) Phase) × Right b n (link (two r 4) Edge)
+phase_rights : (kind : BookKind) (b : List ℕ) (n : ℕ) (r : List ℕ) → AllByRecursion (Right b n) (fields Phase kind r) → Right b n (link (next_index r) Phase) × Right b n (link (two r 4) Edge)
 phase_rights Model b n r all = (all.0, all.1.0)
 phase_rights Automaton b n r all = (all.0, all.1.0)
 
-words_few : (b : List ℕ) (kind : BookKind) (s : Sound b kind) (k : ℕ) (some : 1 ≤ k) (p : ℕ) → All (Right b (told_records b)) (fields Phase kind (row b p)) → Few b kind s k some (first_word kind (row b p)) (words_in kind b p)
+words_few : (b : List ℕ) (kind : BookKind) (s : Sound b kind) (k : ℕ) (some : 1 ≤ k) (p : ℕ) → AllByRecursion (Right b (told_records b)) (fields Phase kind (row b p)) → Few b kind s k some (first_word kind (row b p)) (words_in kind b p)
 words_few b Model s k some p all = leaves b Model s k some Word (λ r. refl) (two (row b p) 8) all.1.1.0
 words_few b Automaton s k some p all = omega arith
 
@@ -184,22 +184,22 @@ module _ (b : List ℕ) (kind : BookKind) (s : Sound b kind) (k : ℕ) (some : 1
 abbrev Inside : List ℕ → ℕ → Type 0
 Inside b j = (1 ≤ j) × (j ≤ whole_records b)
 
-chain_inside : (b : List ℕ) (i : ℕ) → All (Inside b) (chain_of b i)
+chain_inside : (b : List ℕ) (i : ℕ) → AllByRecursion (Inside b) (chain_of b i)
 chain_inside b i = chain_within (λ j. next_index (row b j)) (whole_records b) (whole_records b) i
 
-words_inside : (kind : BookKind) (b : List ℕ) (p : ℕ) → All (Inside b) (words_in kind b p)
+words_inside : (kind : BookKind) (b : List ℕ) (p : ℕ) → AllByRecursion (Inside b) (words_in kind b p)
 words_inside Model b p = chain_inside b (two (row b p) 8)
 words_inside Automaton b p = tt
 
-pub tree_inside : (b : List ℕ) (kind : BookKind) → All (λ j. (1 ≤ j) × (j ≤ whole_records b)) (tree_records kind b)
+pub tree_inside : (b : List ℕ) (kind : BookKind) → AllByRecursion (λ j. (1 ≤ j) × (j ≤ whole_records b)) (tree_records kind b)
 tree_inside b kind =
     let In = Inside b in
-    let phase : (p : ℕ) → In p → All In (of_phase kind b p) = λ p h.
+    let phase : (p : ℕ) → In p → AllByRecursion In (of_phase kind b p) = λ p h.
     (h, All-append In (edges_in b p) (words_in kind b p) (chain_inside b (two (row b p) 4)) (words_inside kind b p))
     in
-    let station : (t : ℕ) → In t → All In (of_station kind b t) = λ t h.
-    (h, all_into_joined In (of_phase kind b) (phases_in b t) (All-weaker In (λ p. All In (of_phase kind b p)) phase (phases_in b t) (chain_inside b (two (row b t) 4))))
+    let station : (t : ℕ) → In t → AllByRecursion In (of_station kind b t) = λ t h.
+    (h, all_into_joined In (of_phase kind b) (phases_in b t) (All-weaker In (λ p. AllByRecursion In (of_phase kind b p)) phase (phases_in b t) (chain_inside b (two (row b t) 4))))
     in
     All-append In (flat_map (of_station kind b) (stations_in b)) (paths_in b)
-    (all_into_joined In (of_station kind b) (stations_in b) (All-weaker In (λ t. All In (of_station kind b t)) station (stations_in b) (chain_inside b (two b 6))))
+    (all_into_joined In (of_station kind b) (stations_in b) (All-weaker In (λ t. AllByRecursion In (of_station kind b t)) station (stations_in b) (chain_inside b (two b 6))))
     (chain_inside b (two b 8))

@@ -1,6 +1,6 @@
 -- Of a book whose structure is right, the tree's records are different, and no more than the head tells.
 use Rattle.std.proofs.Common.{◌≡◌, ℕ, ◌+◌, ◌≤◌, List, [], ◌∷◌, ◌++◌, length, sym, ap, ◌∙◌, subst, ⊎_elim, arith}
-use Rattle.std.specs.List.{flat_map, AllByRecursion as All}
+use Rattle.std.specs.List.{flat_map, AllByRecursion}
 use Rattle.std.proofs.lemmas.List.{length-append}
 use Rattle.std.proofs.ByRecursion.{All-weaker}
 use Rattle.book.specs.Bytes.{two, row}
@@ -32,9 +32,9 @@ module _ (b : List ℕ) (kind : BookKind) (once : Once (tree_records kind b)) wh
       in
       omega (arith, stations_once k, total_joined_le (same k) (phases_in b) (of_station kind b) (λ s. omega (arith, own (phases_in b s))) (stations_in b))
 
-  edges_distinct : All (λ s. All (λ p. Distinct (edges_in b p)) (phases_in b s)) (stations_in b)
+  edges_distinct : AllByRecursion (λ s. AllByRecursion (λ p. Distinct (edges_in b p)) (phases_in b s)) (stations_in b)
   edges_distinct =
-      All-weaker (λ s. Once (of_station kind b s)) (λ s. All (λ p. Distinct (edges_in b p)) (phases_in b s))
+      All-weaker (λ s. Once (of_station kind b s)) (λ s. AllByRecursion (λ p. Distinct (edges_in b p)) (phases_in b s))
       (λ s o. All-weaker (λ p. Once (of_phase kind b p)) (λ p. Distinct (edges_in b p))
       (λ p q. once_distinct (edges_in b p) (once_front (edges_in b p) (words_in kind b p) (once_back (p ∷ []) (edges_in b p ++ words_in kind b p) q)))
       (phases_in b s) (once_joined (of_phase kind b) (phases_in b s) (once_back (s ∷ []) (flat_map (of_phase kind b) (phases_in b s)) o)))
@@ -63,7 +63,7 @@ pub trees_have_different_records : TreesHaveDifferentRecords
 trees_have_different_records b kind s =
     let n = told_records b in
     let tree = tree_records kind b in
-    let within : All (λ k. (1 ≤ k) × (k ≤ n)) tree = subst (λ m. All (λ k. (1 ≤ k) × (k ≤ m)) tree) (all_whole b n s.whole) (tree_inside b kind) in
+    let within : AllByRecursion (λ k. (1 ≤ k) × (k ≤ n)) tree = subst (λ m. AllByRecursion (λ k. (1 ≤ k) × (k ≤ m)) tree) (all_whole b n s.whole) (tree_inside b kind) in
     let once = once_from_names (links_at kind b) n tree within s.each_named_once (λ k low high. tree_few b kind s k low) s.each_reached in
     let different = once_distinct tree once in
     record {

@@ -1,7 +1,7 @@
 -- The records that a book's tree is made of. Of a book whose structure is right they are different, and as many at most as
 -- the head tells.
 use Rattle.std.specs.Prelude.{ℕ, ◌≤◌, List, [], ◌∷◌, ◌++◌, length}
-use Rattle.std.specs.List.{flat_map, AllByRecursion as All}
+use Rattle.std.specs.List.{flat_map, AllByRecursion}
 use Rattle.book.specs.Bytes.{two, row}
 use Rattle.book.specs.Chains.{chain_of}
 use Rattle.book.specs.declared.term.BookKind.{BookKind}
@@ -39,13 +39,13 @@ abbrev pub tree_records : BookKind → List ℕ → List ℕ
 tree_records kind b = flat_map (of_station kind b) (stations_in b) ++ paths_in b
 
 pub record TreeOf (b : List ℕ) (kind : BookKind) : Type 0 where
-  pub within : All (λ k. (1 ≤ k) × (k ≤ told_records b)) (tree_records kind b)
+  pub within : AllByRecursion (λ k. (1 ≤ k) × (k ≤ told_records b)) (tree_records kind b)
   pub different : Distinct (tree_records kind b)
   pub few : length (tree_records kind b) ≤ told_records b
   pub some : 1 ≤ length (tree_records kind b)
   -- so no phase is one of two stations, and no edge stands twice in its phase
   pub phases_apart : Distinct (flat_map (phases_in b) (stations_in b))
-  pub edges_apart : All (λ s. All (λ p. Distinct (edges_in b p)) (phases_in b s)) (stations_in b)
+  pub edges_apart : AllByRecursion (λ s. AllByRecursion (λ p. Distinct (edges_in b p)) (phases_in b s)) (stations_in b)
 
 abbrev pub TreesHaveDifferentRecords : Type 0
 TreesHaveDifferentRecords = (b : List ℕ) (kind : BookKind) → Sound b kind → TreeOf b kind

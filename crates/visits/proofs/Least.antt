@@ -1,6 +1,6 @@
 -- The smallest of two lists, and of a list turn by turn.
 use Rattle.std.proofs.Common.{◌≡◌, ℕ, zero, suc, ◌+◌, ◌<◌, ◌≤◌, Bool, true, false, cond, leb, List, [], ◌∷◌, ◌++◌, length, get_or, drop, Some, None, Option, sym, refl, ap, ◌∙◌, subst, ⊎_elim, arith}
-use Rattle.std.specs.List.{ContainsAt as Has, AllByRecursion as All}
+use Rattle.std.specs.List.{ContainsAt as Has, AllByRecursion}
 use Rattle.std.proofs.lemmas.List.{at_drop_more, at_drop_all}
 use Rattle.std.proofs.ByRecursion.{has_get_or, has_append_right, All-weaker}
 use Rattle.std.proofs.lemmas.Bool.{leb-true, leb-false}
@@ -47,7 +47,7 @@ smallest_is_smallest [] = refl
 smallest_is_smallest (k ∷ ks) = with_first (smallest ks) (smallest_is_smallest ks)
   where
     with_first : (o : Option ℕ) → IsSmallest ks o → IsSmallest (k ∷ ks) (least (Some k) o)
-    with_first None none = (has_get_or (k ∷ ks) 0 0 (omega arith), (omega arith, subst (All (λ j. k ≤ j)) (sym none) tt))
+    with_first None none = (has_get_or (k ∷ ks) 0 0 (omega arith), (omega arith, subst (AllByRecursion (λ j. k ≤ j)) (sym none) tt))
     with_first (Some m) found = go (leb k m) refl
       where
         go : (t : Bool) → leb k m ≡ t → IsSmallest (k ∷ ks) (cond t (Some k) (Some m))

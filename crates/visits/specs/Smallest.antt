@@ -1,6 +1,6 @@
 -- The smallest of some record numbers.
 use Rattle.std.specs.Prelude.{◌≡◌, ℕ, suc, ◌≤◌, Bool, true, false, cond, List, [], ◌∷◌, ◌++◌, Some, None, Option, nat_le}
-use Rattle.std.specs.List.{ContainsAt as Has, AllByRecursion as All}
+use Rattle.std.specs.List.{ContainsAt as Has, AllByRecursion}
 
 -- the smaller of two numbers, if there are any
 abbrev pub least : Option ℕ → Option ℕ → Option ℕ
@@ -15,7 +15,7 @@ smallest (k ∷ ks) = let rest = smallest ks in least (Some k) rest
 -- that is what it is
 abbrev pub IsSmallest : List ℕ → Option ℕ → Type 0
 IsSmallest ks None = ks ≡ []
-IsSmallest ks (Some k) = Has ks k × All (λ j. k ≤ j) ks
+IsSmallest ks (Some k) = Has ks k × AllByRecursion (λ j. k ≤ j) ks
 
 abbrev pub SmallestIsSmallest : Type 0
 SmallestIsSmallest = (ks : List ℕ) → IsSmallest ks (smallest ks)

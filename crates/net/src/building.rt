@@ -1,6 +1,6 @@
 // A net is made.
 ghost use Rattle.std.specs.Prelude.{◌≡◌, length, IfOk};
-ghost use Rattle.semantics.specs.Calls.{make as making-of};
+ghost use Rattle.semantics.specs.Calls.{make as making_of};
 ghost use Rattle.calls.specs.Slots.{counted, written};
 ghost use Rattle.net.specs.Nets.{count_of, count_built, StandsFor};
 
@@ -20,9 +20,9 @@ fn build<M: Machine + Drop>(
     parts: u64,
     events: &mut [Event],
 ) -> Result<Net<M>, Refusal>
-    ensures answer { count_built M.Machine.meaning result ≡ counted (making-of (M.Machine.meaning machine) paths.now order parts (length events.old)).answer }
-    ensures slots { events.new ≡ written (making-of (M.Machine.meaning machine) paths.now order parts (length events.old)).answer events.old }
-    ensures net { IfOk result (λ x. StandsFor M.Machine.meaning machine (making-of (M.Machine.meaning machine) paths.now order parts (length events.old)) x) }
+    ensures answer { count_built M.Machine.meaning result ≡ counted (making_of (M.Machine.meaning machine) paths.now order parts (length events.old)).answer }
+    ensures slots { events.new ≡ written (making_of (M.Machine.meaning machine) paths.now order parts (length events.old)).answer events.old }
+    ensures net { IfOk result (λ x. StandsFor M.Machine.meaning machine (making_of (M.Machine.meaning machine) paths.now order parts (length events.old)) x) }
 {
     let machine = gear_to_net_scale(machine)?;
     let stations = machine.stations();
@@ -65,9 +65,9 @@ impl<M: Machine + Drop> Net<M> {
         parts: u64,
         events: &mut [Event],
     ) -> Result<(Net<M>, usize), Refusal>
-        ensures answer { count_of result ≡ counted (making-of (M.Machine.meaning machine) paths.now order parts (length events.old)).answer }
-        ensures slots { events.new ≡ written (making-of (M.Machine.meaning machine) paths.now order parts (length events.old)).answer events.old }
-        ensures net { IfOk result (λ x. StandsFor M.Machine.meaning machine (making-of (M.Machine.meaning machine) paths.now order parts (length events.old)) x.0) }
+        ensures answer { count_of result ≡ counted (making_of (M.Machine.meaning machine) paths.now order parts (length events.old)).answer }
+        ensures slots { events.new ≡ written (making_of (M.Machine.meaning machine) paths.now order parts (length events.old)).answer events.old }
+        ensures net { IfOk result (λ x. StandsFor M.Machine.meaning machine (making_of (M.Machine.meaning machine) paths.now order parts (length events.old)) x.0) }
     {
         let net = build(machine, paths, order, parts, events)?;
         let told = net.stations();

@@ -10,7 +10,7 @@ use Rattle.calls.specs.Slots as slots
 use Rattle.making.proofs.Openings.{length_created}
 use Rattle.net.specs.Invariant.{Within}
 use Rattle.net.proofs.Makings.{make_at_paths, make_at_room, make_at_parts, make_goes, wrong_parts, right_parts, as_many, created_written, opened_front, table_long, opened_within}
-use Rattle.net.proofs.making.build.Goals as goal
+use Rattle.net.proofs.building.build.Goals as goal
 
 pub returns-in-Some : goal.returns-in-Some
 returns-in-Some g c =
