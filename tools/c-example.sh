@@ -7,9 +7,9 @@
 # the program says what is expected of it and valgrind finds no fault.
 set -eu
 cd "$(dirname "$0")/.."
-rt staticlib exports > /dev/null
+(cd crates/exports && rt lib > /dev/null)
 mkdir -p target/c
-cp target/staticlib/libexports.a target/c/libtranslator.a
+cp crates/exports/out/libexports.a target/c/libtranslator.a
 cc -std=c99 -Wall -Wextra -Werror -pedantic -O2 -Iinclude -o target/c/check examples/check.c target/c/libtranslator.a
 
 printf '' > target/c/empty.book

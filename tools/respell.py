@@ -22,6 +22,8 @@ IMPORT = re.compile(r"use\s+(?:pub\s+)?(Rattle\.(?:std|core)\.[^\s{;]+|borrow\.[
 STEPS = {"c", "goal", "w", "l", "g"}
 # Names under an `as`, parameters that are fields too, and what a line of another form declares.
 MORE = set("Steps-by Book-right read-order read-path read-paths hearer-port sender-port three-ticks wait-call word-call making-of goes-on-by net-goes-on".split())
+# Facts that the toolchain's script had put in snake case.
+FACTS = {"Read_from": "ReadFrom", "Goes_on": "GoesOn"}
 # Names that would fall together with a module, or with a field, and get a word more.
 OTHERWISE = {"One-time": "AreOneTime", "Reads-back": "IsReadBack", "Writes-back": "IsWrittenBack", "low-open": "open_low", "L-some": "one_or_more", "getD-small": "get_or_small"}
 
@@ -52,6 +54,10 @@ def by_own_name(t):
         return t
     t = t.replace("AllByRecursion as All", "AllByRecursion")
     return "".join("AllByRecursion" if w == "All" else w for w in TOKEN.findall(t))
+
+
+def by_fact(t):
+    return "".join(FACTS.get(w, w) for w in TOKEN.findall(t)) if any(f in t for f in FACTS) else t
 
 
 def rename_crate(old, new):
@@ -125,7 +131,7 @@ def main(dry):
                     clash[(w, new)].add(p)
                 w = new
             done.append(w)
-        out[p] = by_own_name("".join(done))
+        out[p] = by_fact(by_own_name("".join(done)))
     for (a, b), ps in sorted(clash.items()):
         print(f"falls together: {a} and {b} in {sorted(ps)[0]} (+{len(ps) - 1})")
     news = collections.defaultdict(set)

@@ -229,7 +229,7 @@ mod tests {
         let list = relay_records()?;
         let mut out = [7; 290];
         assert_eq!(rt; told(write(HEAD, &list, &mut out)), (0, 288));
-        assert_eq!(rt; &out[0..288], RELAY);
+        assert_eq!(rt; &out[0..288], RELAY.as_slice());
         assert_eq!(rt; [out[288], out[289]], [7, 7]);
         Ok(())
     }

@@ -83,7 +83,8 @@ impl<M: Machine> Machine for Gear<M> {
     fn stance(&self, station: usize, stance: u32) -> Option<StanceInfo> {
         let scale = self.below.scale(station)?;
         let below = self.below.stance(station, stance)?;
-        Some(in_finer_ticks(below, factor_in_use(&self.factors, station, scale)))
+        let factor = factor_in_use(&self.factors, station, scale);
+        Some(in_finer_ticks(below, factor))
     }
 
     fn hearing(

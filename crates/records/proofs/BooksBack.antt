@@ -13,7 +13,7 @@ use Rattle.book.specs.declared.record.Head.{Head}
 use Rattle.book.specs.declared.record.Record.{Record}
 use Rattle.records.specs.Fits.{Byte, Bytes, Fits, ModelFits, AutomatonFits}
 use Rattle.records.specs.Books.{head_bytes, book_bytes, rows, record_of, laid_out}
-use Rattle.records.specs.Returns.{IsReadBack, IsWrittenBack, Read_from, WrittenReads, ReadWrites, ModelBooksReturn, AutomatonBooksReturn}
+use Rattle.records.specs.Returns.{IsReadBack, IsWrittenBack, ReadFrom, WrittenReads, ReadWrites, ModelBooksReturn, AutomatonBooksReturn}
 use Rattle.book.specs.declared.term.BookKind.TheVariants.{Model, Automaton}
 use Rattle.book.specs.declared.record.ModelBody.{ModelBody}
 use Rattle.book.specs.declared.record.ModelBody.TheVariants as model
@@ -75,7 +75,7 @@ module _ {B : Type 0} (fits : B → Type 0) (decoded : List ℕ → Option (Reco
       (cases_lt i 32)
 
   -- the rows from record k on are what their records are written as
-  rows_again : (b : List ℕ) (xs : List (Record B)) (k : ℕ) → Bytes b → length b ≡ 32 * (length xs + k) → Read_from fits decoded encoded b k xs → rows encoded xs ≡ drop (32 * k) b
+  rows_again : (b : List ℕ) (xs : List (Record B)) (k : ℕ) → Bytes b → length b ≡ 32 * (length xs + k) → ReadFrom fits decoded encoded b k xs → rows encoded xs ≡ drop (32 * k) b
   rows_again b [] k bytes size r = sym (drop_all (32 * k) b (omega arith))
   rows_again b (x ∷ xs) k bytes size r =
       let here : encoded x ≡ row b k = writes (row b k) x (row_bytes_fit b k bytes) r.0 in

@@ -23,9 +23,9 @@ module _ {B : Type 0} (fits : B → Type 0) (decoded : List ℕ → Option (Reco
   IsWrittenBack = (r : List ℕ) (x : Record B) → Bytes r → decoded r ≡ Some x → encoded x ≡ r
 
   -- the rows of a book from record k on are read as these records
-  abbrev pub Read_from : List ℕ → ℕ → List (Record B) → Type 0
-  Read_from b k [] = Unit {0}
-  Read_from b k (x ∷ xs) = (decoded (row b k) ≡ Some x) × Read_from b (k + 1) xs
+  abbrev pub ReadFrom : List ℕ → ℕ → List (Record B) → Type 0
+  ReadFrom b k [] = Unit {0}
+  ReadFrom b k (x ∷ xs) = (decoded (row b k) ≡ Some x) × ReadFrom b (k + 1) xs
 
   module _ (kind : BookKind) where
     -- every record of a book that is written is read as it was, whatever stands behind the book
@@ -38,7 +38,7 @@ module _ {B : Type 0} (fits : B → Type 0) (decoded : List ℕ → Option (Reco
     abbrev pub ReadWrites : Type 0
     ReadWrites =
         (b : List ℕ) (head : Head) (xs : List (Record B)) → Bytes b → length b ≡ 32 * (length xs + 1)
-        → row b 0 ≡ head_bytes kind (length xs) head → Read_from b 1 xs → book_bytes kind encoded head xs ≡ b
+        → row b 0 ≡ head_bytes kind (length xs) head → ReadFrom b 1 xs → book_bytes kind encoded head xs ≡ b
 
 abbrev pub ModelRecordsReturn : Type 0
 ModelRecordsReturn = IsReadBack ModelFits decoded_model encoded_model × IsWrittenBack ModelFits decoded_model encoded_model

@@ -30,7 +30,7 @@ use Rattle.semantics.proofs.Simulation.{Follows}
 use Rattle.stepping.proofs.Bridge.{InParts, left_stood, obeyed_runs, runs_obeyed}
 use Rattle.stepping.proofs.Geared.{paths_good, long, gear_at, some_factor, steady, start_at, start_whole, makes, telling_at}
 use Rattle.stepping.proofs.Settled.{run_one}
-use Rattle.stepping.specs.Progress.{Goes_on}
+use Rattle.stepping.specs.Progress.{GoesOn}
 use Rattle.stepping.proofs.Timely.{left_sure}
 use Rattle.stepping.proofs.Progress.{progress as goes_on_by, start_sure}
 use Rattle.stepping.specs.Determined.{OneRun}
@@ -209,10 +209,10 @@ module _ (a : AutomatonNet) (law : LawfulAutomata a) (q : ℕ) (some : 1 ≤ q) 
       run_one (rules_of a) (length a.automata) (λ i. InPlace (at i)) (λ i k. automaton_settled L (at i) (law_at i k) (factor_at i k) q some) a.order a.paths acts
       (λ i k. let h = here i (in_net i k) in record { here = h.here; proper = h.clock.left; within = h.within }) x y
 
-  pub progress : (calls : List Call) (σ : ℕ → AutomatonState) → AutomataAt a q (left a q calls) σ → Goes_on (AutomatonRun a) σ
+  pub progress : (calls : List Call) (σ : ℕ → AutomatonState) → AutomataAt a q (left a q calls) σ → GoesOn (AutomatonRun a) σ
   progress calls σ stood =
       let r = left_stood (geared ms) q a.order a.paths some (steady ms sound) (rules_of a) S forth back calls start (opening_state a) (start_whole ms sound a.paths a.order q) start_stands in
       let here = of_at (left a q calls) σ r.1.0 r.1.1 stood in
-      subst (λ k. Goes_on (Run (rules_of a) k a.order a.paths) σ) all
+      subst (λ k. GoesOn (Run (rules_of a) k a.order a.paths) σ) all
       (goes_on_by (geared ms) q a.order a.paths some (steady ms sound) (rules_of a) S forth fine (left a q calls)
       (left_sure (geared ms) q (steady ms sound) a.order a.paths calls start (start_sure ms sound a.paths a.order q)) σ here)

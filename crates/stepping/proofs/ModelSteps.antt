@@ -28,7 +28,7 @@ use Rattle.semantics.proofs.Simulation.{Follows}
 use Rattle.stepping.proofs.Bridge.{InParts, left_stood, obeyed_runs, runs_obeyed}
 use Rattle.stepping.proofs.Geared.{paths_good, scaled, long, gear_at, exact, some_factor, steady, start_at, start_whole, makes, telling_at}
 use Rattle.stepping.proofs.Settled.{run_one}
-use Rattle.stepping.specs.Progress.{Goes_on}
+use Rattle.stepping.specs.Progress.{GoesOn}
 use Rattle.stepping.proofs.Timely.{left_sure}
 use Rattle.stepping.proofs.Progress.{progress as goes_on_by, start_sure}
 use Rattle.stepping.specs.Determined.{OneRun}
@@ -203,10 +203,10 @@ module _ (m : ModelNet) (law : LawfulModel m) (q : ℕ) (some : 1 ≤ q) where
       run_one (rules_of m) (length m.stations) (λ i. InPlace (st i)) (λ i k. model_settled m.order L (st i) (law_at i k) one_or_more (exact_at i k) (factor_at i k) q some) m.order m.paths acts
       (λ i k. let h = here i (in_net i k) in record { here = h.here; proper = h.age.left }) x y
 
-  pub progress : (calls : List Call) (σ : ℕ → ModelState) → ModelStands m q (left m q calls) σ → Goes_on (ModelRun m) σ
+  pub progress : (calls : List Call) (σ : ℕ → ModelState) → ModelStands m q (left m q calls) σ → GoesOn (ModelRun m) σ
   progress calls σ stood =
       let r = left_stood (geared ms) q m.order m.paths some (steady ms sound) (rules_of m) S forth back calls start (λ i. fresh (st i).opening) (start_whole ms sound m.paths m.order q) start_stands in
       let here = of_stands (left m q calls) σ r.1.0 r.1.1 stood in
-      subst (λ k. Goes_on (Run (rules_of m) k m.order m.paths) σ) all
+      subst (λ k. GoesOn (Run (rules_of m) k m.order m.paths) σ) all
       (goes_on_by (geared ms) q m.order m.paths some (steady ms sound) (rules_of m) S forth fine (left m q calls)
       (left_sure (geared ms) q (steady ms sound) m.order m.paths calls start (start_sure ms sound m.paths m.order q)) σ here)

@@ -9,7 +9,7 @@ use Rattle.semantics.specs.Calls.{make, bad_paths}
 use Rattle.semantics.specs.Runs.{Rules, Run, ended, goes_on}
 use Rattle.stepping.specs.StationRules.{station_rules, NetRun}
 use Rattle.stepping.specs.AnyMachine.{at_first, then_called, ReachedOver}
-use Rattle.stepping.specs.Progress.{Goes_on}
+use Rattle.stepping.specs.Progress.{GoesOn}
 use Rattle.semantics.proofs.Simulation.{Follows, does_too}
 use Rattle.stepping.proofs.Bridge.{InParts}
 use Rattle.stepping.proofs.Whole.{Steady}
@@ -20,7 +20,7 @@ use Rattle.stepping.proofs.AnyMachine.{forth}
 module _ (ms : Meaning) (q : ℕ) (o : Order) (paths : List Path) (some : 1 ≤ q) (steady : Steady ms) {X : Type 0} (B : ℕ → Rules X) (S : ℕ → StationState → X → Type 0)
     (suits : (i : ℕ) → i < length ms → Follows (InParts q) (station_rules q (meaning_at ms i)) (B i) (S i)) where
   pub progress : bad_paths (length ms) paths ≡ None → (s : NetState) → Sure ms q steady o s → (σ : ℕ → X) → ((i : ℕ) → i < length ms → S i (state_at s.stations i) (σ i)) →
-      Goes_on (Run B (length ms) o paths) σ
+      GoesOn (Run B (length ms) o paths) σ
   progress fine s sure σ stood = elim (net_goes_on ms q steady o some paths fine s sure) [
     | inl x ↦
         (let t = does_too (InParts q) (λ i. station_rules q (meaning_at ms i)) B (length ms) S suits o paths σ stood tt x.1.1 in
@@ -45,7 +45,7 @@ module _ (ms : Meaning) (sound : Sound ms) (ps : List Path) (o : Order) (q : ℕ
   reached_sure (then_called {s = s} paths c r) = call_sure (geared ms) q (steady ms sound) o paths c s (reached_sure r)
 
   pub machine_progress : 1 ≤ q → (s : NetState) → ReachedOver ms ps o q s → (paths : List Path) → bad_paths (length ms) paths ≡ None →
-      Goes_on (NetRun (make ms ps o q 0).net paths) (state_at s.stations)
+      GoesOn (NetRun (make ms ps o q 0).net paths) (state_at s.stations)
   machine_progress some s r paths fine =
       progress (geared ms) q o paths some (steady ms sound) (λ i. station_rules q (meaning_at (geared ms) i)) (λ i x y. y ≡ x) (λ i l. forth q (meaning_at (geared ms) i))
       (ap (λ k. bad_paths k paths) (long ms sound) ∙ fine) s (reached_sure r) (state_at s.stations) (λ i l. refl)

@@ -25,15 +25,15 @@ module _ {X : Type 0} (Runs : (ℕ → X) → List Act → List Event → (ℕ �
   abbrev pub MayWait : Type 0
   MayWait = (d : Fraction) × (Proper d × ((1 ≤ d.numerator) × ((τ : ℕ → X) × Runs σ (delay d ∷ []) [] τ)))
 
-  abbrev pub Goes_on : Type 0
-  Goes_on = MayStep ⊎ MayWait
+  abbrev pub GoesOn : Type 0
+  GoesOn = MayStep ⊎ MayWait
 
 pub record NetsProgress : Type 0 where
   -- over any sound machine, with paths that pass the check
   pub machines : (ms : Meaning) → Sound ms → (ps : List Path) (o : Order) (q : ℕ) → 1 ≤ q → (s : NetState) → ReachedOver ms ps o q s →
-      (paths : List Path) → bad_paths (length ms) paths ≡ None → Goes_on (NetRun (make ms ps o q 0).net paths) (state_at s.stations)
+      (paths : List Path) → bad_paths (length ms) paths ≡ None → GoesOn (NetRun (make ms ps o q 0).net paths) (state_at s.stations)
   -- by the model's rules and by the automaton rules
   pub models : (m : ModelNet) → LawfulModel m → (q : ℕ) → 1 ≤ q → (calls : List Call) (σ : ℕ → ModelState) →
-      ModelStands m q (model.left m q calls) σ → Goes_on (ModelRun m) σ
+      ModelStands m q (model.left m q calls) σ → GoesOn (ModelRun m) σ
   pub automata : (a : AutomatonNet) → LawfulAutomata a → (q : ℕ) → 1 ≤ q → (calls : List Call) (σ : ℕ → AutomatonState) →
-      AutomataAt a q (automaton.left a q calls) σ → Goes_on (AutomatonRun a) σ
+      AutomataAt a q (automaton.left a q calls) σ → GoesOn (AutomatonRun a) σ

@@ -15,7 +15,7 @@ use Rattle.records.specs.Model.{decoded_model, encoded_model}
 use Rattle.records.specs.Automaton.{decoded_automaton, encoded_automaton}
 use Rattle.records.specs.Books.{head_bytes, book_bytes}
 use Rattle.records.specs.Heads.{order_in, head_in}
-use Rattle.records.specs.Returns.{Read_from, ReadWrites}
+use Rattle.records.specs.Returns.{ReadFrom, ReadWrites}
 use Rattle.records.proofs.BooksBack.{model_books_return, automaton_books_return}
 use Rattle.records.proofs.Same.{same_two, same_four}
 use Rattle.records.proofs.Spelled.{byte_spelled, two_field, zero_field, end_field}
@@ -73,14 +73,14 @@ module _ (b : List ℕ) (kind : BookKind) (bytes : Bytes b) (s : Sound b kind) w
 
 -- a list of the records that every row is read as
 module _ {B : Type 0} (fits : B → Type 0) (decoded : List ℕ → Option (Record B)) (encoded : Record B → List ℕ) (b : List ℕ) where
-  read_all : (m k : ℕ) → ((i : ℕ) → k ≤ i → i < k + m → is_some (decoded (row b i)) ≡ true) → (xs : List (Record B)) × (length xs ≡ m) × Read_from fits decoded encoded b k xs
+  read_all : (m k : ℕ) → ((i : ℕ) → k ≤ i → i < k + m → is_some (decoded (row b i)) ≡ true) → (xs : List (Record B)) × (length xs ≡ m) × ReadFrom fits decoded encoded b k xs
   read_all zero k laid = ([], refl, tt)
   read_all (suc m) k laid =
       let rest = read_all m (k + 1) (λ i low high. laid i (omega arith) (omega arith)) in
       go (decoded (row b k)) refl (laid k (omega arith) (omega arith)) rest.0 rest.1 rest.2
     where
-      go : (o : Option (Record B)) → decoded (row b k) ≡ o → is_some o ≡ true → (xs : List (Record B)) → length xs ≡ m → Read_from fits decoded encoded b (k + 1) xs
-          → (ys : List (Record B)) × (length ys ≡ suc m) × Read_from fits decoded encoded b k ys
+      go : (o : Option (Record B)) → decoded (row b k) ≡ o → is_some o ≡ true → (xs : List (Record B)) → length xs ≡ m → ReadFrom fits decoded encoded b (k + 1) xs
+          → (ys : List (Record B)) × (length ys ≡ suc m) × ReadFrom fits decoded encoded b k ys
       go None e t xs n f = absurd (both_ways false refl t)
       go (Some x) e t xs n f = (x ∷ xs, ap suc n, (e, f))
 

@@ -17,12 +17,12 @@ returns-in_err-below g c =
 pub in_finer_ticks-requires : goal.in_finer_ticks-requires
 in_finer_ticks-requires g c =
     lifetime_fits (g.M.Machine.meaning c.args.self.now.below) (g.M.Machine.sound c.args.self.now.below) c.args.self.now.factors
-    c.args.station c.in_ok-scale.scale c.factor_in_use.result c.in_ok-scale.ensures c.factor_in_use.ensures
+    c.args.station c.in_ok-scale.scale c.factor_in_use-factor.result c.in_ok-scale.ensures c.factor_in_use-factor.ensures
     c.args.stance c.in_ok-below.below c.in_ok-below.ensures
 
 pub returns : goal.returns
 returns g c =
     ap Some c.in_finer_ticks.ensures
     ∙ gear_stance_told (g.M.Machine.meaning c.args.self.now.below) (g.M.Machine.sound c.args.self.now.below) c.args.self.now.factors
-    c.args.station c.in_ok-scale.scale c.factor_in_use.result c.in_ok-scale.ensures c.factor_in_use.ensures
+    c.args.station c.in_ok-scale.scale c.factor_in_use-factor.result c.in_ok-scale.ensures c.factor_in_use-factor.ensures
     c.args.stance c.in_ok-below.below c.in_ok-below.ensures
