@@ -1,5 +1,5 @@
 -- The bytes of a book, as a list of numbers below 256, and the numbers in them.
-use Rattle.std.specs.Prelude.{◌≡◌, ℕ, ◌+◌, ◌-◌, ◌*◌, ◌/◌, ◌%◌, Bool, true, false, ◌&&◌, List, [], ◌∷◌, length, take, drop, ◌==◌, slice_index, slice_range}
+use Rattle.std.specs.Prelude.{◌≡◌, ℕ, ◌+◌, ◌*◌, ◌/◌, ◌%◌, Bool, true, ◌&&◌, List, [], ◌∷◌, length, take, drop, ◌==◌, slice_index, slice_range}
 
 -- byte i, 0 past the end
 abbrev pub at : List ℕ → ℕ → ℕ

@@ -1,5 +1,5 @@
 -- Chains: records that name one another by their next index.
-use Rattle.std.specs.Prelude.{ℕ, zero, suc, ◌+◌, ◌-◌, ◌/◌, Bool, true, false, cond, ◌||◌, List, [], ◌∷◌, length, ◌==◌, nat_lt}
+use Rattle.std.specs.Prelude.{ℕ, zero, suc, ◌-◌, ◌/◌, cond, ◌||◌, List, [], ◌∷◌, length, ◌==◌, nat_lt}
 use Rattle.book.specs.Bytes.{two, row}
 
 -- how many records lie wholly in the bytes, besides the head

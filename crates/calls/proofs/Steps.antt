@@ -1,8 +1,8 @@
 -- A step, refused or taken.
-use Rattle.std.proofs.Common.{◌≡◌, ℕ, suc, ◌+◌, ◌-◌, ◌*◌, ◌<◌, ◌≤◌, Bool, true, false, cond, ltb, List, ◌∷◌, ◌++◌, length, get_or, take, drop, Some, None, Option, sym, refl, ap, ◌∙◌, ap₂, arith, take-append-drop}
+use Rattle.std.proofs.Common.{◌≡◌, ℕ, suc, ◌+◌, ◌<◌, ◌≤◌, Bool, true, false, cond, ltb, List, ◌∷◌, ◌++◌, length, get_or, drop, Some, None, Option, sym, refl, ap, ◌∙◌, ap₂, arith, take-append-drop}
 use Rattle.std.proofs.lemmas.List.{length-take-le, at_drop_more, at_drop_all}
 use Rattle.std.proofs.lemmas.Bool.{lt-ltb, le-ltb}
-use Rattle.book.specs.declared.refusal.Fault.TheVariants.{Paths, Room, Idle}
+use Rattle.book.specs.declared.refusal.Fault.TheVariants.{Paths, Room}
 use Rattle.book.specs.declared.term.Path.{Path}
 use Rattle.book.specs.declared.event.Event.{Event}
 use Rattle.semantics.specs.declared.state.StationState.{StationState}

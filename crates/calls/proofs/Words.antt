@@ -1,5 +1,5 @@
 -- A word, refused or delivered.
-use Rattle.std.proofs.Common.{◌≡◌, ℕ, suc, ◌+◌, ◌<◌, ◌≤◌, ltb, List, length, Some, None, Option, sym, refl, ap, ◌∙◌, ap₂, arith}
+use Rattle.std.proofs.Common.{◌≡◌, ℕ, suc, ◌<◌, ◌≤◌, ltb, List, length, Some, None, Option, sym, refl, ap, ◌∙◌, ap₂, arith}
 use Rattle.std.proofs.lemmas.Bool.{lt-ltb, le-ltb}
 use Rattle.book.specs.declared.refusal.Fault.TheVariants.{Paths, Room, Busy, Due}
 use Rattle.book.specs.declared.term.Path.{Path}
@@ -10,7 +10,7 @@ use Rattle.semantics.specs.Machine.{Meaning}
 use Rattle.semantics.proofs.Lowest.{is_lowest}
 use Rattle.semantics.proofs.Options.{some_not_none}
 use Rattle.semantics.specs.Net.{Net, NetState, busy_at, due_at, deliver}
-use Rattle.semantics.specs.Calls.{Outcome, lowest, number, unless, at_zero, bad_paths, room, declined, answered, lowest_busy, due_before_words, answer_call, word}
+use Rattle.semantics.specs.Calls.{Outcome, lowest, number, unless, at_zero, bad_paths, room, declined, answered, due_before_words, answer_call, word}
 use Rattle.calls.specs.Slots.{net_of, state_of, due_among}
 
 -- the four refusals in their order, and then the delivery

@@ -2,7 +2,7 @@
 use Rattle.std.proofs.Common.{◌≡◌, ℕ, suc, Bool, List, [], ◌∷◌, ◌++◌, sym, refl, ap, ◌∙◌}
 use Rattle.std.proofs.lemmas.List.{append-nil}
 use Rattle.visits.specs.Smallest.{along}
-use Rattle.visits.specs.Visits.{phases, stations, phase_faults, station_faults, faults, words}
+use Rattle.visits.specs.Visits.{phases, stations, phase_faults, words}
 use Rattle.chains.specs.EdgeRules.{of_edges, faulty_edges, broken_edges}
 
 -- two functions that give the same at each place give the same along a list

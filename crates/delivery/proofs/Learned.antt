@@ -1,12 +1,12 @@
 -- What the answers of a machine tell of what is learned of it.
-use Rattle.std.proofs.Common.{◌≡◌, ℕ, zero, suc, ◌+◌, ◌*◌, ◌/◌, ◌<◌, ◌≤◌, Bool, true, false, cond, ◌&&◌, ltb, leb, List, [], ◌∷◌, length, Some, None, Option, unwrap_or, sym, refl, ap, ◌∙◌, mul-le-mul, le-div_iff_mul-le, arith}
+use Rattle.std.proofs.Common.{◌≡◌, ℕ, zero, suc, ◌*◌, ◌/◌, ◌<◌, ◌≤◌, Bool, true, false, cond, ◌&&◌, ltb, leb, [], ◌∷◌, length, Some, None, Option, unwrap_or, sym, refl, ap, ◌∙◌, mul-le-mul, le-div_iff_mul-le, arith}
 use Rattle.std.specs.Bool.{then_some}
 use Rattle.std.specs.Option.{option_flatten}
 use Rattle.std.proofs.ByRecursion.{All-get_or}
 use Rattle.std.proofs.lemmas.List.{get_or_past}
 use Rattle.std.proofs.lemmas.Bool.{ltb-true, ltb-false, le-leb, and_from}
 use Rattle.semantics.specs.Machine.{Stance, StationMeaning, Meaning, SoundStation, Sound, meaning_at, blank_meaning, blank_stance}
-use Rattle.semantics.specs.Questions.{ask_stance, ask_hearing, has_stance, parts_fit}
+use Rattle.semantics.specs.Questions.{ask_stance, ask_hearing, parts_fit}
 use Rattle.machine.specs.declared.stance.StanceInfo.{StanceInfo}
 use Rattle.machine.specs.Stances.{told}
 use Rattle.delivery.specs.Known.{only_known, learned}

@@ -1,14 +1,12 @@
 -- Gearing a whole machine.
-use Rattle.std.proofs.Common.{◌≡◌, ℕ, zero, suc, ◌+◌, ◌-◌, ◌*◌, ◌/◌, ◌<◌, ◌≤◌, Bool, true, false, cond, ◌&&◌, eqb, ltb, leb, ◌⊎◌, List, [], ◌∷◌, length, get_or, Some, None, Option, sym, refl, ap, ◌∙◌, subst, ap₂, inl, inr, ⊎_elim, mul-le-mul_right, mul-one, arith}
-use native.Mathlib.Nat.{one-le-mul}
+use Rattle.std.proofs.Common.{◌≡◌, ℕ, zero, suc, ◌+◌, ◌-◌, ◌*◌, ◌<◌, ◌≤◌, Bool, true, false, cond, ◌&&◌, eqb, ltb, List, [], ◌∷◌, length, Some, None, Option, refl, ap, ◌∙◌, subst, ap₂, mul-one, arith}
 use Rattle.std.specs.Bool.{then_some}
-use Rattle.std.specs.Option.{option_map}
 use Rattle.std.specs.List.{AllByRecursion}
 use Rattle.std.proofs.ByRecursion.{All-get_or}
-use Rattle.std.proofs.lemmas.Bool.{cases_Bool, lt-ltb, le-ltb, ltb-true, or_parts, eqb-false, ltb-false}
+use Rattle.std.proofs.lemmas.Bool.{ltb-true, or_parts, ltb-false}
 use Rattle.std.proofs.lemmas.Bool.Decides.{nat_tests}
 use Rattle.semantics.specs.Machine.{Stance, StationMeaning, Meaning, SoundStation, Sound, meaning_at, blank_meaning, gear, gear_stance}
-use Rattle.semantics.specs.Calls.{lowest, number}
+use Rattle.semantics.specs.Calls.{number}
 use Rattle.semantics.specs.Questions.{ask_station, ask_stance, ask_hearing, has_stance, parts_fit}
 use Rattle.semantics.proofs.Options.{some_not_none}
 use Rattle.semantics.proofs.Lowest.{all_fail}

@@ -1,6 +1,6 @@
 -- Gearing a whole machine: a list has a factor for each station, that of station 1 first.
-use Rattle.std.specs.Prelude.{ℕ, zero, suc, ◌-◌, ◌*◌, Bool, cond, ◌||◌, List, [], ◌∷◌, length, Option, ◌==◌, nat_lt, slice_index}
-use Rattle.semantics.specs.Machine.{StationMeaning, Meaning, meaning_at, gear}
+use Rattle.std.specs.Prelude.{ℕ, suc, ◌*◌, Bool, cond, ◌||◌, List, [], ◌∷◌, length, Option, ◌==◌, nat_lt, slice_index}
+use Rattle.semantics.specs.Machine.{Meaning, meaning_at, gear}
 use Rattle.semantics.specs.Calls.{lowest, number}
 
 -- A factor does not fit a scale: it is 0, or there would be over 1,000,000 ticks per second.

@@ -1,5 +1,5 @@
 -- What a line tells is known by its bytes.
-use Rattle.std.proofs.Common.{◌≡◌, ℕ, ◌^◌, ◌<◌, cond, eqb, List, [], ◌∷◌, get_or, Some, None, Option, sym, refl, ap, ◌∙◌, arith}
+use Rattle.std.proofs.Common.{◌≡◌, ℕ, ◌^◌, ◌<◌, cond, eqb, List, [], ◌∷◌, Some, sym, refl, ap, ◌∙◌, arith}
 use Rattle.book.specs.Events.{event_letter, event_of_letter}
 use Rattle.book.specs.Refusals.{fault_number}
 use Rattle.book.specs.declared.event.Event.{Event}
@@ -11,7 +11,7 @@ use Rattle.book.specs.declared.refusal.Fault.TheVariants as fault
 use Rattle.lines.specs.declared.line.Line.{Line}
 use Rattle.lines.specs.declared.line.Line.TheVariants as line
 use Rattle.lines.specs.declared.line.Telling.{Telling}
-use Rattle.lines.specs.Lines.{ended, marked, line_bytes, Fits, LinesDiffer}
+use Rattle.lines.specs.Lines.{ended, line_bytes, Fits, LinesDiffer}
 use Rattle.lines.specs.Numbers.{Are}
 use Rattle.lines.proofs.Numbers.{same_numbers}
 

@@ -1,17 +1,16 @@
 -- What the answers of a machine tell of its meaning, and so of the machine geared over it.
-use Rattle.std.proofs.Common.{◌≡◌, ℕ, zero, suc, ◌+◌, ◌-◌, ◌*◌, ◌/◌, ◌^◌, ◌<◌, ◌≤◌, Bool, true, false, cond, ◌&&◌, ltb, leb, List, length, IfSome, Some, None, Option, sym, refl, ap, ◌∙◌, subst, ap₂, mul-le-mul_right, mul_assoc, le-div_iff_mul-le, div-le_self, arith}
+use Rattle.std.proofs.Common.{◌≡◌, ℕ, zero, suc, ◌-◌, ◌*◌, ◌/◌, ◌^◌, ◌<◌, ◌≤◌, Bool, true, false, ◌&&◌, ltb, leb, List, length, IfSome, Some, None, Option, sym, refl, ap, ◌∙◌, subst, ap₂, mul-le-mul_right, mul_assoc, div-le_self, arith}
 use Rattle.std.specs.Bool.{then_some}
 use Rattle.std.specs.Option.{option_map}
 use Rattle.std.proofs.ByRecursion.{All-get_or}
 use Rattle.std.proofs.lemmas.List.{get_or_past}
 use Rattle.std.proofs.lemmas.Bool.{ltb-true, ltb-false, lt-ltb, lt-leb, and_right, and_parts}
 use Rattle.semantics.specs.Machine.{Stance, StationMeaning, Meaning, SoundStation, Sound, meaning_at, blank_meaning, gear}
-use Rattle.semantics.specs.Calls.{lowest, number}
 use Rattle.semantics.specs.Questions.{ask_station, ask_stance, ask_hearing, has_stance, parts_fit}
 use Rattle.semantics.proofs.Options.{some_not_none, inner}
-use Rattle.gearing.specs.Gearing.{in_use, wanted, geared_by, misfit_at}
+use Rattle.gearing.specs.Gearing.{in_use, wanted, geared_by}
 use Rattle.gearing.specs.Laws.{used_at}
-use Rattle.gearing.proofs.Gearing.{some_in_use, in_use_fits, length_from, geared_station, geared_stance, geared_hearing}
+use Rattle.gearing.proofs.Gearing.{in_use_fits, geared_station, geared_stance, geared_hearing}
 use Rattle.machine.specs.declared.stance.StanceInfo.{StanceInfo}
 use Rattle.machine.specs.Stances.{told, finer}
 

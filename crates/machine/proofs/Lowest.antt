@@ -1,5 +1,5 @@
 -- A search from place to place for the lowest one that passes: what is left, from here, gives the whole answer.
-use Rattle.std.proofs.Common.{◌≡◌, ℕ, zero, suc, ◌+◌, ◌-◌, ◌<◌, ◌≤◌, Bool, true, false, cond, Some, None, Option, sym, refl, ap, ◌∙◌, ap₂, arith}
+use Rattle.std.proofs.Common.{◌≡◌, ℕ, suc, ◌+◌, ◌-◌, ◌<◌, ◌≤◌, Bool, true, false, cond, Some, None, Option, sym, ap, ◌∙◌, ap₂, arith}
 use Rattle.semantics.specs.Calls.{lowest, number}
 
 module _ (p : ℕ → Bool) (n i : ℕ) (answer : Option ℕ) where

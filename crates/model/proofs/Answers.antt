@@ -1,21 +1,18 @@
 -- What the machine answers is what its meaning has.
-use Rattle.std.proofs.Common.{◌≡◌, ℕ, zero, suc, ◌+◌, ◌*◌, ◌<◌, ◌≤◌, Bool, true, false, ◌&&◌, ltb, List, length, get_or, Some, None, Option, sym, refl, ap, ◌∙◌, subst, ap₂, arith}
+use Rattle.std.proofs.Common.{◌≡◌, ℕ, zero, suc, ◌*◌, ◌<◌, Bool, true, false, ◌&&◌, ltb, List, length, get_or, Some, None, Option, sym, refl, ap, ◌∙◌, ap₂, arith}
 use Rattle.std.specs.Bool.{then_some}
-use Rattle.book.specs.Chains.{whole_records}
 use Rattle.book.specs.declared.term.BookKind.TheVariants.{Model}
 use Rattle.records.specs.Fits.{Bytes}
 use Rattle.fields.specs.Fields.{station_at}
 use Rattle.semantics.specs.Times.{fraction}
-use Rattle.semantics.specs.Trees.{Phase, blank_phase, lifetime_of, edges_of}
+use Rattle.semantics.specs.Trees.{blank_phase, lifetime_of, edges_of}
 use Rattle.semantics.specs.Books.{read_order, read_model}
-use Rattle.semantics.specs.Scales.{scale_of}
 use Rattle.semantics.specs.Fits.{edge_fits, first}
 use Rattle.semantics.specs.Machine.{Stance, StationMeaning, Meaning, meaning_at}
-use Rattle.semantics.specs.Meanings.{phase_of, sent_of, stance_number, quiet_stance, busy_stance, model_stance, model_known, station_meaning, model_meaning}
+use Rattle.semantics.specs.Meanings.{phase_of, sent_of, stance_number, quiet_stance, busy_stance, model_stance, station_meaning, model_meaning}
 use Rattle.semantics.specs.Questions.{ask_station, ask_stance, ask_hearing, parts_fit}
 use Rattle.book_scales.specs.Scales.{fitting_scale}
 use Rattle.tree_records.specs.TreeRecords.{stations_in}
-use Rattle.machine.specs.Stances.{told}
 use Rattle.moments.specs.Moments.{parts_allowed}
 use Rattle.accepted.specs.Accepted.{accepts}
 use Rattle.places.specs.declared.table.Places.{Places}

@@ -1,23 +1,17 @@
 -- Which stances a station has, by the table of places and the words of a phase.
-use Rattle.std.proofs.Common.{◌≡◌, ℕ, ◌<◌, ◌≤◌, Bool, true, false, cond, ◌&&◌, ◌||◌, eqb, ltb, List, [], map, length, get_or, Some, None, Option, sym, refl, ap, ◌∙◌, subst, ap₂, arith}
+use Rattle.std.proofs.Common.{◌≡◌, ℕ, ◌<◌, ◌≤◌, Bool, true, false, cond, ◌&&◌, ◌||◌, eqb, ltb, List, [], length, get_or, Some, None, Option, sym, refl, ap, ◌∙◌, ap₂, arith}
 use Rattle.std.specs.Bool.{then_some}
 use Rattle.std.proofs.lemmas.List.{length-map}
 use Rattle.std.proofs.lemmas.Bool.{ltb-true, ltb-false, lt-ltb, le-ltb, eq-eqb, ne_eqb, or_left, or_right, or_from, and_parts, both_ways}
 use Rattle.book.specs.Chains.{chain_of}
-use Rattle.book.specs.declared.term.BookKind.TheVariants.{Model}
-use Rattle.records.specs.Fits.{Bytes}
 use Rattle.fields.specs.Fields.{phase_at, is_endless}
 use Rattle.semantics.specs.Trees.{Word, Phase, words_of, blank_phase}
 use Rattle.semantics.specs.Books.{read_word}
 use Rattle.semantics.specs.Meanings.{model_known}
 use Rattle.tree_records.specs.TreeRecords.{stations_in}
-use Rattle.accepted.specs.Accepted.{accepts}
-use Rattle.places.specs.declared.table.Places.{Places}
-use Rattle.places.specs.Tables.{places_of, phase_in}
 use Rattle.places.specs.Standing.{phases_of, PhaseOf}
-use Rattle.model.specs.Records.{station_tree, phase_tree, words_at}
+use Rattle.model.specs.Records.{station_tree, words_at}
 use Rattle.model.proofs.Trees.{words_read, phase_count, phase_read}
-use Rattle.model.proofs.Lawful.{stands, lawful_station}
 use Rattle.places.proofs.Asking.{when_some, when_none}
 use Rattle.model.proofs.Words.{told_at}
 

@@ -1,15 +1,14 @@
 -- What is known of an accepted model book, at a station and at a phase.
-use Rattle.std.proofs.Common.{◌≡◌, ℕ, ◌<◌, ◌≤◌, true, false, ltb, List, map, length, get_or, sym, refl, ap, ◌∙◌, subst, arith}
-use Rattle.std.specs.List.{AllByRecursion}
+use Rattle.std.proofs.Common.{◌≡◌, ℕ, ◌<◌, ◌≤◌, true, false, ltb, List, map, length, sym, ap, ◌∙◌, subst, arith}
 use Rattle.std.proofs.ByRecursion.{All-get_or}
 use Rattle.std.proofs.lemmas.List.{length-map, get_or-map}
 use Rattle.book.specs.Chains.{whole_records}
 use Rattle.book.specs.declared.term.BookKind.TheVariants.{Model}
 use Rattle.records.specs.Fits.{Bytes}
-use Rattle.fields.specs.Fields.{station_at, phase_at, edge_at, is_endless}
-use Rattle.semantics.specs.Trees.{lasting, lifetime_of, edges_of, blank_phase, blank_station}
-use Rattle.semantics.specs.Books.{place_in, read_order, read_edge, read_station, read_model}
-use Rattle.semantics.specs.LawfulModels.{LawfulModel, LawfulStation, LawfulPhase, LawfulEdge, NextHere}
+use Rattle.fields.specs.Fields.{station_at, phase_at, is_endless}
+use Rattle.semantics.specs.Trees.{blank_phase, blank_station}
+use Rattle.semantics.specs.Books.{place_in, read_order, read_station, read_model}
+use Rattle.semantics.specs.LawfulModels.{LawfulModel, LawfulStation, LawfulPhase, NextHere}
 use Rattle.tree_records.specs.TreeRecords.{stations_in}
 use Rattle.tree_laws.proofs.Records.{short}
 use Rattle.accepted.specs.Accepted.{accepts}
@@ -19,7 +18,7 @@ use Rattle.places.specs.Tables.{places_of, place_of}
 use Rattle.places.specs.Standing.{station_of, phases_of, Stands, PhaseOf}
 use Rattle.places.proofs.Standing.{places_stand}
 use Rattle.model.specs.Records.{station_tree, phase_tree}
-use Rattle.model.proofs.Trees.{phases_read, opening_read, phase_count, phase_read, lasting_read, edges_read}
+use Rattle.model.proofs.Trees.{opening_read, phase_count, phase_read, lasting_read}
 
 module _ (b : List ℕ) (bytes : Bytes b) (accepted : accepts b Model ≡ true) where
   lawful : LawfulModel (read_model b)

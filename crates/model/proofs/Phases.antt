@@ -1,5 +1,5 @@
 -- What is told of a phase, and where a word leads from it.
-use Rattle.std.proofs.Common.{◌≡◌, ℕ, suc, ◌+◌, ◌*◌, ◌<◌, Bool, true, false, cond, ◌&&◌, List, [], ◌∷◌, map, length, get_or, drop, Some, None, Option, sym, refl, ap, ◌∙◌, subst, ap₂, arith}
+use Rattle.std.proofs.Common.{◌≡◌, ℕ, suc, ◌+◌, ◌<◌, Bool, true, false, cond, ◌&&◌, List, [], map, length, drop, Some, None, Option, sym, ap, ◌∙◌, subst, ap₂, arith}
 use Rattle.std.specs.Option.{option_map}
 use Rattle.std.specs.List.{ContainsAt as Has, AllByRecursion}
 use Rattle.std.proofs.lemmas.List.{drop-map}
@@ -10,7 +10,7 @@ use Rattle.book.specs.declared.term.BookKind.TheVariants.{Model}
 use Rattle.records.specs.Fits.{Bytes}
 use Rattle.fields.specs.Fields.{phase_at, edge_at, lifetime_at, is_endless}
 use Rattle.semantics.specs.Times.{Fraction, Order, inside, counts, itself}
-use Rattle.semantics.specs.Trees.{Phase, Edge, lifetime_of, edges_of}
+use Rattle.semantics.specs.Trees.{lifetime_of, edges_of}
 use Rattle.semantics.specs.Books.{place_in, read_order, read_word, read_edge}
 use Rattle.semantics.specs.Scales.{ticks}
 use Rattle.semantics.specs.Fits.{word_fits, edge_fits, first}

@@ -1,15 +1,14 @@
 -- What the tree of a model book has at a station and at a phase, by the book's records.
-use Rattle.std.proofs.Common.{◌≡◌, ℕ, suc, ◌+◌, ◌<◌, ◌≤◌, Bool, true, false, cond, List, [], ◌∷◌, map, length, get_or, Some, None, sym, refl, ap, ◌∙◌, subst, ap₂, arith}
+use Rattle.std.proofs.Common.{◌≡◌, ℕ, ◌<◌, Bool, true, false, cond, List, [], map, length, get_or, Some, None, refl, ap, ◌∙◌, arith}
 use Rattle.std.proofs.lemmas.List.{get_or-map, length-map}
 use Rattle.book.specs.Bytes.{row}
 use Rattle.book.specs.Chains.{chain_of}
 use Rattle.fields.specs.Fields.{station_at, phase_at, lifetime_at, is_endless}
-use Rattle.semantics.specs.Times.{Fraction}
-use Rattle.semantics.specs.Trees.{Edge, Word, Phase, endless, lasting, lifetime_of, words_of, edges_of, next_of, blank_station}
+use Rattle.semantics.specs.Trees.{Edge, Phase, endless, lasting, lifetime_of, words_of, edges_of, blank_station}
 use Rattle.semantics.specs.Books.{place_in, read_order, read_word, read_edge, read_phase, read_station, read_model}
 use Rattle.semantics.specs.Machine.{meaning_at, blank_meaning}
 use Rattle.semantics.specs.Meanings.{station_meaning, model_meaning}
-use Rattle.tree_records.specs.TreeRecords.{stations_in, phases_in}
+use Rattle.tree_records.specs.TreeRecords.{stations_in}
 use Rattle.tree_laws.proofs.Records.{rest_two}
 use Rattle.places.specs.Standing.{station_of, phases_of}
 use Rattle.model.specs.Records.{station_tree, phase_tree, words_at}

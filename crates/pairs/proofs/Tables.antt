@@ -1,5 +1,5 @@
 -- A table that is filled with a phase's edges, and what it answers.
-use Rattle.std.proofs.Common.{◌≡◌, ℕ, zero, suc, ◌+◌, ◌<◌, ◌≤◌, Bool, true, false, cond, ◌||◌, eqb, ltb, List, [], ◌∷◌, ◌++◌, map, length, get_or, take, drop, set, replicate, Ok, Err, Option, Result, sym, refl, ap, ◌∙◌, arith}
+use Rattle.std.proofs.Common.{◌≡◌, ℕ, zero, suc, ◌+◌, ◌<◌, ◌≤◌, Bool, true, false, cond, ◌||◌, eqb, ltb, List, [], ◌∷◌, ◌++◌, length, get_or, take, drop, set, replicate, Ok, Err, Option, Result, sym, refl, ap, ◌∙◌, arith}
 use Rattle.std.proofs.lemmas.List.{take_more_set, map_more, take_all, length-map, length-replicate}
 use Rattle.std.proofs.lemmas.Bool.{cond_below, cond_above, le-ltb, ltb-false}
 use Rattle.book.specs.Bytes.{two, row}
@@ -7,7 +7,6 @@ use Rattle.book.specs.Chains.{chain, chain_of, whole_records, next_index}
 use Rattle.book.specs.Refusals.{refused}
 use Rattle.book.specs.declared.refusal.Fault.TheVariants.{Room}
 use Rattle.book.specs.declared.refusal.Refusal.{Refusal}
-use Rattle.links.specs.Walks.{filled}
 use Rattle.links.proofs.Listed.{no_ok}
 use Rattle.semantics.specs.Times.{Fraction}
 use Rattle.visits.specs.Smallest.{smallest}

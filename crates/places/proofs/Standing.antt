@@ -1,10 +1,10 @@
 -- The tables stand for the book.
-use Rattle.std.proofs.Common.{◌≡◌, ℕ, zero, suc, ◌+◌, ◌<◌, ◌≤◌, Bool, true, false, cond, ltb, List, [], ◌∷◌, ◌++◌, map, length, get_or, take, replicate, Some, sym, refl, ap, ◌∙◌, subst, ap₂, arith, length-append}
+use Rattle.std.proofs.Common.{◌≡◌, ℕ, zero, suc, ◌+◌, ◌<◌, ◌≤◌, Bool, true, false, cond, ltb, List, [], ◌∷◌, length, get_or, take, replicate, Some, sym, refl, ap, ◌∙◌, subst, arith, length-append}
 use Rattle.std.specs.Bool.{then_some}
 use Rattle.std.specs.List.{flat_map, AllByRecursion}
 use Rattle.std.proofs.lemmas.List.{get_or-map, length-map, take_all}
 use Rattle.std.proofs.lemmas.Bool.{le-ltb, ltb-true}
-use Rattle.book.specs.Chains.{whole_records, chain_of}
+use Rattle.book.specs.Chains.{whole_records}
 use Rattle.book.specs.Terms.{most_records}
 use Rattle.book.specs.declared.term.BookKind.{BookKind}
 use Rattle.book.specs.declared.term.BookKind.TheVariants.{Model, Automaton}
@@ -13,10 +13,10 @@ use Rattle.structure.specs.Faults.{told_records}
 use Rattle.structure.specs.Sound.{Sound}
 use Rattle.visits.specs.Visits.{stations, phases}
 use Rattle.semantics.specs.Books.{place_in}
-use Rattle.tree_records.specs.TreeRecords.{stations_in, phases_in, of_phase, of_station, tree_records, paths_in, edges_in, words_in, TreeOf}
+use Rattle.tree_records.specs.TreeRecords.{stations_in, phases_in, of_phase, of_station, paths_in, TreeOf}
 use Rattle.tree_records.proofs.TreeRecords.{trees_have_different_records}
-use Rattle.places.specs.Tables.{places_of, places_along, station_in, phase_in, place_of, counts_in, listed, all_listed, all_starts, all_placed}
-use Rattle.places.specs.Standing.{station_of, phases_of, Stands, PlacesStand}
+use Rattle.places.specs.Tables.{places_along, station_in, phase_in, place_of, counts_in}
+use Rattle.places.specs.Standing.{station_of, phases_of, PlacesStand}
 use Rattle.places.proofs.Reading.{listed_at, all_listed_at, all_starts_at, all_placed_at, start_of, place_all, all_left, all_right}
 
 -- a sound book is no longer than any book

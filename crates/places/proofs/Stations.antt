@@ -1,8 +1,7 @@
 -- The tables, station by station.
-use Rattle.std.proofs.Common.{◌≡◌, ℕ, suc, ◌+◌, ◌-◌, ◌*◌, ◌<◌, ◌≤◌, List, [], ◌∷◌, length, get_or, drop, set, replicate, sym, refl, ap, ◌∙◌, arith}
+use Rattle.std.proofs.Common.{◌≡◌, ℕ, suc, ◌+◌, ◌-◌, ◌*◌, ◌<◌, ◌≤◌, List, length, get_or, drop, set, replicate, sym, refl, ap, ◌∙◌, arith}
 use Rattle.std.proofs.lemmas.List.{at_drop_more, at_drop_all, length-set}
 use Rattle.visits.specs.Visits.{phases}
-use Rattle.places.specs.declared.table.Places.{Places}
 use Rattle.places.specs.Tables.{listed, placed, all_listed, all_placed, all_starts, counts_in, places_along}
 
 -- what holds after i of the stations ss: the tables, with the stations that are left, give the whole

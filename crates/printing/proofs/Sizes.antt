@@ -9,7 +9,7 @@ use Rattle.book.specs.declared.record.Head.{Head}
 use Rattle.records.specs.Automaton.{encoded_automaton, automaton_rest}
 use Rattle.records.specs.Books.{rows, book_bytes}
 use Rattle.semantics.specs.Times.{Order}
-use Rattle.semantics.specs.Trees.{Path, Station, ModelNet, Transition, Location}
+use Rattle.semantics.specs.Trees.{Station, ModelNet, Location}
 use Rattle.semantics.specs.Print.{print_station, station_locations, print}
 use Rattle.semantics.specs.LawfulAutomata.{automaton_records, automata_records}
 use Rattle.semantics.specs.LawfulAutomata as lawful

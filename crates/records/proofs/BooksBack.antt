@@ -1,10 +1,9 @@
 -- Books come back, written and read, and read and written.
-use Rattle.std.proofs.Common.{◌≡◌, ℕ, zero, suc, ◌+◌, ◌-◌, ◌*◌, ◌/◌, ◌^◌, ◌<◌, ◌≤◌, min, Bool, true, false, cond, ◌||◌, eqb, ltb, List, [], ◌∷◌, ◌++◌, length, get_or, take, drop, Some, None, Ok, Err, Option, sym, refl, ap, ◌∙◌, subst, ⊎_elim, append_assoc, append-nil, arith, lit<, length-append, length-drop}
-use Rattle.std.specs.List.{AllByRecursion}
+use Rattle.std.proofs.Common.{◌≡◌, ℕ, zero, suc, ◌+◌, ◌-◌, ◌*◌, ◌/◌, ◌<◌, ◌≤◌, min, cond, List, [], ◌∷◌, ◌++◌, length, get_or, take, drop, Some, Err, Option, sym, refl, ap, ◌∙◌, subst, ⊎_elim, append_assoc, arith, lit<, length-append}
 use Rattle.std.proofs.lemmas.List.{take_at, drop_at, drop-drop, take-append-drop, get_or-take, get_or-drop, get_or_past, drop_all, length-take}
 use Rattle.std.proofs.ByRecursion.{All-get_or}
 use Rattle.std.proofs.lemmas.Bool.{ne_eqb, le-ltb, or_from, cases_lt}
-use Rattle.book.specs.Bytes.{at, two, row}
+use Rattle.book.specs.Bytes.{two, row}
 use Rattle.book.specs.Chains.{whole_records}
 use Rattle.book.specs.Refusals.{refused}
 use Rattle.book.specs.declared.refusal.Fault.TheVariants as faults
@@ -12,7 +11,7 @@ use Rattle.book.specs.declared.term.BookKind.{BookKind}
 use Rattle.book.specs.declared.record.Head.{Head}
 use Rattle.book.specs.declared.record.Record.{Record}
 use Rattle.records.specs.Fits.{Byte, Bytes, Fits, ModelFits, AutomatonFits}
-use Rattle.records.specs.Books.{head_bytes, book_bytes, rows, record_of, laid_out}
+use Rattle.records.specs.Books.{book_bytes, rows, laid_out}
 use Rattle.records.specs.Returns.{IsReadBack, IsWrittenBack, ReadFrom, WrittenReads, ReadWrites, ModelBooksReturn, AutomatonBooksReturn}
 use Rattle.book.specs.declared.term.BookKind.TheVariants.{Model, Automaton}
 use Rattle.book.specs.declared.record.ModelBody.{ModelBody}

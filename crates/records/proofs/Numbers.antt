@@ -1,7 +1,7 @@
 -- Numbers and their bytes.
-use Rattle.std.proofs.Common.{◌≡◌, ℕ, ◌+◌, ◌*◌, ◌/◌, ◌%◌, ◌^◌, ◌<◌, sym, refl, ap, ◌∙◌, arith}
+use Rattle.std.proofs.Common.{◌≡◌, ℕ, ◌+◌, ◌*◌, ◌/◌, ◌%◌, sym, ap, ◌∙◌, arith}
 use native.Mathlib.Nat.{div-div-eq-div-mul}
-use Rattle.records.specs.Fits.{Byte, Two, Four, Eight}
+use Rattle.records.specs.Fits.{Two, Four, Eight}
 
 two_low : (n : ℕ) → 256 * (n / 256 % 256) + n % 256 ≡ n % 65536
 two_low n = omega arith

@@ -1,23 +1,21 @@
 -- What is written of a record is read back.
-use Rattle.std.proofs.Common.{◌≡◌, ℕ, ◌+◌, ◌*◌, ◌/◌, ◌%◌, ◌<◌, Bool, true, false, cond, ◌&&◌, eqb, leb, List, [], ◌∷◌, ◌++◌, replicate, Some, None, Option, sym, refl, ap, ◌∙◌, lit<}
+use Rattle.std.proofs.Common.{◌≡◌, ℕ, ◌+◌, Bool, true, false, cond, eqb, leb, List, [], ◌∷◌, ◌++◌, replicate, Some, None, Option, refl, ap, ◌∙◌, lit<}
 use Rattle.std.proofs.lemmas.Bool.{and_from, eq-eqb}
-use Rattle.book.specs.Bytes.{two_bytes, eight_bytes}
+use Rattle.book.specs.Bytes.{eight_bytes}
 use Rattle.book.specs.declared.record.Fraction.{Fraction}
 use Rattle.book.specs.declared.record.HighEnd.{HighEnd}
 use Rattle.book.specs.declared.record.HighEnd.TheVariants.{Closed, Open, Absent}
-use Rattle.book.specs.declared.record.Window.{Window}
 use Rattle.book.specs.declared.record.Edge.{Edge}
 use Rattle.book.specs.declared.record.Location.{Location}
 use Rattle.book.specs.declared.record.Label.{Label}
 use Rattle.book.specs.declared.record.Label.TheVariants.{Silent, Hears, Sends}
 use Rattle.book.specs.declared.record.Transition.{Transition}
-use Rattle.book.specs.declared.record.Record.{Record}
 use Rattle.book.specs.declared.record.ModelBody.{ModelBody}
 use Rattle.book.specs.declared.record.ModelBody.TheVariants as model
 use Rattle.book.specs.declared.record.AutomatonBody.{AutomatonBody}
 use Rattle.book.specs.declared.record.AutomatonBody.TheVariants as automata
-use Rattle.records.specs.Fields.{fraction_bytes, fraction_in, high_or, window, window_marks, bit, marked, zeros_in, given, with_next}
-use Rattle.records.specs.Fits.{Two, Four, Eight, Fits, FractionFits, HighFits, ModelFits, AutomatonFits, LabelFits, BoundFits}
+use Rattle.records.specs.Fields.{fraction_bytes, high_or, window, window_marks, bit, marked, zeros_in, given, with_next}
+use Rattle.records.specs.Fits.{Two, Eight, FractionFits, HighFits, ModelFits, AutomatonFits, BoundFits}
 use Rattle.records.specs.Model.{decoded_model, encoded_model, model_rest, no_fraction, edge_in, edge_laid}
 use Rattle.records.specs.Automaton.{decoded_automaton, encoded_automaton, automaton_rest, automaton_marks, label_in, label_laid, label_byte, label_port, label_lowest, label_highest, location_in, location_laid, transition_in, transition_laid, bound_marks, bound_ticks}
 use Rattle.records.specs.Returns.{IsReadBack}

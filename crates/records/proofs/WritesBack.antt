@@ -1,10 +1,8 @@
 -- What is read of a row is written back as it was.
-use Rattle.std.proofs.Common.{◌≡◌, ℕ, zero, suc, ◌+◌, ◌-◌, ◌*◌, ◌/◌, ◌%◌, ◌<◌, ◌≤◌, Bool, true, false, cond, not, ◌&&◌, ◌||◌, eqb, leb, List, [], ◌∷◌, ◌++◌, length, drop, replicate, Some, None, Option, sym, refl, ap, ◌∙◌, subst, ⊎_elim, arith, lit<, lit≤, length-drop}
+use Rattle.std.proofs.Common.{◌≡◌, ℕ, zero, suc, ◌+◌, ◌-◌, ◌<◌, ◌≤◌, Bool, true, false, cond, ◌&&◌, ◌||◌, eqb, leb, List, ◌∷◌, ◌++◌, length, drop, replicate, Some, None, Option, sym, refl, ap, ◌∙◌, subst, ⊎_elim, arith, lit<, lit≤, length-drop}
 use Rattle.std.proofs.lemmas.Bool.{and_parts, eqb-true, leb-true, both_ways, cases_eq}
 use Rattle.book.specs.Bytes.{at, two, four, eight, two_bytes, four_bytes, eight_bytes, zeros}
 use Rattle.book.specs.Terms.{kind_byte}
-use Rattle.book.specs.declared.term.Kind.{Kind}
-use Rattle.book.specs.declared.record.Fraction.{Fraction}
 use Rattle.book.specs.declared.record.Label.{Label}
 use Rattle.book.specs.declared.record.Label.TheVariants.{Silent, Hears, Sends}
 use Rattle.book.specs.declared.record.Record.{Record}
@@ -12,7 +10,7 @@ use Rattle.book.specs.declared.record.ModelBody.{ModelBody}
 use Rattle.book.specs.declared.record.ModelBody.TheVariants as model
 use Rattle.book.specs.declared.record.AutomatonBody.{AutomatonBody}
 use Rattle.book.specs.declared.record.AutomatonBody.TheVariants as automata
-use Rattle.records.specs.Fields.{decoded_by, with_next, given, row_bytes, fraction_in, fraction_bytes, high_or, path_in, path_laid, path_rest, window_laid, marked, bit}
+use Rattle.records.specs.Fields.{decoded_by, with_next, given, fraction_in, fraction_bytes, path_in, path_laid, path_rest, window_laid, marked, bit}
 use Rattle.records.specs.Fits.{Byte, Bytes, ModelFits, AutomatonFits}
 use Rattle.records.specs.Model.{decoded_model, encoded_model, model_body, model_fields, model_laid, model_kind, model_marks, model_rest, station_in, station_laid, phase_in, phase_laid, edge_in, edge_laid, word_in, word_laid, no_fraction}
 use Rattle.records.specs.Automaton.{decoded_automaton, encoded_automaton, automaton_body, automaton_fields, automaton_rows_laid, automaton_kind, automaton_marks, automaton_rest, automaton_in, automaton_laid, bound_in, bound_ticks, bound_marks, location_in, location_laid, label_in, label_laid, label_byte, label_port, label_lowest, label_highest, transition_in, transition_laid}

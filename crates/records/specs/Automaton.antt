@@ -1,5 +1,5 @@
 -- The records of an automaton book, and the 32 bytes of each.
-use Rattle.std.specs.Prelude.{ℕ, ◌+◌, Bool, true, false, cond, not, ◌&&◌, ◌||◌, List, [], ◌∷◌, ◌++◌, replicate, Some, None, Option, ◌==◌, nat_eq, nat_le}
+use Rattle.std.specs.Prelude.{ℕ, ◌+◌, Bool, true, false, cond, ◌&&◌, ◌||◌, List, ◌∷◌, ◌++◌, replicate, Some, None, Option, ◌==◌, nat_eq, nat_le}
 use Rattle.book.specs.Bytes.{two_bytes, four_bytes, eight_bytes}
 use Rattle.book.specs.Terms.{kind_byte}
 use Rattle.book.specs.declared.term.Kind.{Kind}

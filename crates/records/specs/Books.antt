@@ -1,6 +1,6 @@
 -- A book written as bytes, and its records read back.
-use Rattle.std.specs.Prelude.{ℕ, ◌+◌, ◌*◌, min, Bool, true, false, cond, ◌||◌, List, [], ◌∷◌, ◌++◌, length, take, drop, replicate, Some, None, Ok, Err, Option, Result, ◌==◌, nat_lt}
-use Rattle.book.specs.Bytes.{at, two, two_bytes, row}
+use Rattle.std.specs.Prelude.{ℕ, ◌+◌, ◌*◌, min, cond, ◌||◌, List, [], ◌∷◌, ◌++◌, length, take, drop, replicate, Some, None, Ok, Err, Option, Result, ◌==◌, nat_lt}
+use Rattle.book.specs.Bytes.{two, two_bytes, row}
 use Rattle.book.specs.Chains.{whole_records}
 use Rattle.book.specs.Terms.{book_byte, most_records, order_byte}
 use Rattle.book.specs.Refusals.{refused}

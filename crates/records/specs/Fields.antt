@@ -1,5 +1,5 @@
 -- The fields of a record, by the bytes from 4 on. A field is named by its place in the whole record.
-use Rattle.std.specs.Prelude.{ℕ, ◌+◌, ◌-◌, ◌/◌, ◌%◌, Bool, true, false, cond, not, ◌&&◌, ◌||◌, List, [], ◌∷◌, ◌++◌, length, drop, replicate, Some, None, Option, ◌==◌, nat_le}
+use Rattle.std.specs.Prelude.{ℕ, ◌+◌, ◌-◌, ◌/◌, ◌%◌, Bool, true, false, cond, not, ◌&&◌, ◌||◌, List, ◌∷◌, ◌++◌, length, drop, replicate, Some, None, Option, ◌==◌, nat_le}
 use Rattle.book.specs.Bytes.{at, two, four, eight, two_bytes, four_bytes, zeros}
 use Rattle.book.specs.Terms.{kind_byte}
 use Rattle.book.specs.declared.term.Kind.{Kind}

@@ -1,6 +1,5 @@
 -- The records of a model book, and the 32 bytes of each.
-use Rattle.std.specs.Prelude.{ℕ, Bool, true, false, cond, ◌&&◌, List, [], ◌∷◌, ◌++◌, replicate, Some, None, Option, ◌==◌}
-use Rattle.std.specs.Option.{option_map}
+use Rattle.std.specs.Prelude.{ℕ, Bool, false, cond, ◌&&◌, List, ◌∷◌, ◌++◌, replicate, Option, ◌==◌}
 use Rattle.book.specs.Bytes.{two_bytes}
 use Rattle.book.specs.Terms.{kind_byte}
 use Rattle.book.specs.declared.term.Kind.{Kind}

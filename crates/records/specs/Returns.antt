@@ -1,5 +1,5 @@
 -- Records come back: what is written is read again, and what is read is written again as it was.
-use Rattle.std.specs.Prelude.{◌≡◌, ℕ, ◌+◌, ◌*◌, ◌^◌, ◌<◌, List, [], ◌∷◌, ◌++◌, length, Some, None, Ok, Option, slice_index_or}
+use Rattle.std.specs.Prelude.{◌≡◌, ℕ, ◌+◌, ◌*◌, ◌^◌, ◌<◌, List, [], ◌∷◌, ◌++◌, length, Some, Ok, Option, slice_index_or}
 use Rattle.std.specs.List.{AllByRecursion}
 use Rattle.book.specs.Bytes.{row}
 use Rattle.book.specs.declared.term.BookKind.{BookKind}
@@ -7,8 +7,6 @@ use Rattle.book.specs.declared.term.BookKind.TheVariants.{Model, Automaton}
 use Rattle.book.specs.declared.record.Head.{Head}
 use Rattle.records.specs.Books.{head_bytes, book_bytes, record_of}
 use Rattle.book.specs.declared.record.Record.{Record}
-use Rattle.book.specs.declared.record.ModelBody.{ModelBody}
-use Rattle.book.specs.declared.record.AutomatonBody.{AutomatonBody}
 use Rattle.records.specs.Fits.{Bytes, Fits, ModelFits, AutomatonFits}
 use Rattle.records.specs.Model.{decoded_model, encoded_model}
 use Rattle.records.specs.Automaton.{decoded_automaton, encoded_automaton}

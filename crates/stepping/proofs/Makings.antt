@@ -10,7 +10,7 @@ use Rattle.semantics.specs.Machine.{Meaning, meaning_at, blank_meaning, net_scal
 use Rattle.semantics.specs.Events.{Event}
 use Rattle.semantics.specs.Calls.{Answer, make, created, misfit, first_bad, bad_paths, unless, at_zero}
 use Rattle.semantics.proofs.Options.{true_not_false}
-use Rattle.stepping.specs.Makings.{Misfits, AllFit, MakingDeclines, scale, path, room, parts, MakingFits, MakingAnswers, MakingsDecline}
+use Rattle.stepping.specs.Makings.{Misfits, AllFit, MakingDeclines, scale, path, room, parts, MakingFits, MakingsDecline}
 use Rattle.stepping.proofs.Declined.{Finds, finds_lowest, first_number, ok_not_err, cases, zero_none, zero_some, path_found}
 
 -- a refusal or what follows it, where the answer is no refusal

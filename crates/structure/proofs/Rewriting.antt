@@ -1,10 +1,9 @@
 -- The records of a sound book, and its head, are written as they were read.
-use Rattle.std.proofs.Common.{◌≡◌, ℕ, zero, suc, ◌+◌, ◌*◌, ◌<◌, ◌≤◌, Bool, true, false, List, [], ◌∷◌, ◌++◌, length, take, drop, replicate, is_some, Some, None, Ok, Option, unwrap_or, sym, refl, ap, ◌∙◌, subst, ⊎_elim, arith, lit<, lit≤}
+use Rattle.std.proofs.Common.{◌≡◌, ℕ, zero, suc, ◌+◌, ◌*◌, ◌<◌, ◌≤◌, true, false, List, [], ◌∷◌, ◌++◌, length, replicate, is_some, Some, None, Option, unwrap_or, sym, refl, ap, ◌∙◌, subst, ⊎_elim, arith, lit<}
 use Rattle.std.proofs.lemmas.List.{get_or-take, get_or_past, length-take-le}
 use Rattle.std.proofs.lemmas.Bool.{and_parts, both_ways, cases_lt}
 use Rattle.book.specs.Bytes.{at, two, row, two_bytes, zeros}
-use Rattle.book.specs.Terms.{book_byte, most_records, order_byte, order_of_byte}
-use Rattle.book.specs.declared.record.Head.{Head}
+use Rattle.book.specs.Terms.{book_byte, order_byte, order_of_byte}
 use Rattle.book.specs.declared.record.Record.{Record}
 use Rattle.book.specs.declared.term.BookKind.{BookKind}
 use Rattle.book.specs.declared.term.BookKind.TheVariants.{Model, Automaton}
@@ -13,14 +12,14 @@ use Rattle.book.specs.declared.term.Order.TheVariants.{StepFirst, WordFirst}
 use Rattle.records.specs.Fits.{Byte, Bytes, ModelFits, AutomatonFits}
 use Rattle.records.specs.Model.{decoded_model, encoded_model}
 use Rattle.records.specs.Automaton.{decoded_automaton, encoded_automaton}
-use Rattle.records.specs.Books.{head_bytes, book_bytes}
+use Rattle.records.specs.Books.{head_bytes}
 use Rattle.records.specs.Heads.{order_in, head_in}
 use Rattle.records.specs.Returns.{ReadFrom, ReadWrites}
 use Rattle.records.proofs.BooksBack.{model_books_return, automaton_books_return}
 use Rattle.records.proofs.Same.{same_two, same_four}
 use Rattle.records.proofs.Spelled.{byte_spelled, two_field, zero_field, end_field}
-use Rattle.structure.specs.Faults.{told_records, head_laid}
-use Rattle.structure.specs.Structure.{laid_in, structure_of}
+use Rattle.structure.specs.Faults.{told_records}
+use Rattle.structure.specs.Structure.{laid_in}
 use Rattle.structure.specs.Sound.{Sound}
 use Rattle.structure.specs.Rewritten.{Rewritten, SoundBooksRewritten}
 use Rattle.structure.proofs.Soundness.{passes_sound}

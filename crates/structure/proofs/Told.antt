@@ -1,6 +1,6 @@
 -- What is told of a book whose structure is right.
-use Rattle.std.proofs.Common.{◌≡◌, ℕ, ◌-◌, ◌<◌, ◌≤◌, Bool, true, false, cond, ltb, List, map, length, take, drop, Ok, Err, Result, sym, refl, ap, ◌∙◌, arith}
-use Rattle.std.proofs.lemmas.List.{take_at, length-map}
+use Rattle.std.proofs.Common.{◌≡◌, ℕ, ◌<◌, ◌≤◌, true, false, cond, List, map, length, Ok, Err, Result, sym, ap, ◌∙◌, arith}
+use Rattle.std.proofs.lemmas.List.{length-map}
 use Rattle.std.proofs.lemmas.Bool.{lt-ltb, le-ltb}
 use Rattle.book.specs.Bytes.{two}
 use Rattle.book.specs.Chains.{whole_records, chain_of}
@@ -11,7 +11,7 @@ use Rattle.book.specs.declared.refusal.Refusal.{Refusal}
 use Rattle.book.specs.declared.term.BookKind.{BookKind}
 use Rattle.book.specs.declared.term.BookKind.TheVariants.{Model, Automaton}
 use Rattle.book.specs.declared.term.Path.{Path}
-use Rattle.links.specs.Walks.{filled, short, walk_answer, walk_list}
+use Rattle.links.specs.Walks.{filled, short, walk_answer}
 pub use Rattle.links.proofs.Listed.{walk_listed}
 use Rattle.structure.specs.Faults.{told_records}
 use Rattle.structure.specs.Structure.{structure_of}

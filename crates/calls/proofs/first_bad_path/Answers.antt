@@ -1,4 +1,3 @@
-use Rattle.std.proofs.Common.{arith}
 use Rattle.std.proofs.lemmas.List.{get_or_default}
 use Rattle.calls.proofs.Steps.{bad_found, bad_more, bad_none}
 use Rattle.calls.proofs.first_bad_path.Goals as goal

@@ -1,4 +1,4 @@
-use Rattle.std.proofs.Common.{◌≡◌, ◌+◌, ◌*◌, min, length, take, drop, ap, ◌∙◌, arith}
+use Rattle.std.proofs.Common.{◌*◌, take, drop, ap, ◌∙◌}
 use Rattle.book.proofs.Rows.{held}
 use Rattle.book.proofs.bytes.row_of.Goals as goal
 

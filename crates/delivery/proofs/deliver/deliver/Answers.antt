@@ -1,4 +1,4 @@
-use Rattle.std.proofs.Common.{arith, rules}
+use Rattle.std.proofs.Common.{arith}
 use Rattle.std.proofs.lemmas.List.{get_or_default}
 use Rattle.delivery.proofs.Telling.{going_none, going_more, going_all}
 use Rattle.delivery.proofs.deliver.deliver.Goals as goal

@@ -1,6 +1,6 @@
-use Rattle.std.proofs.Common.{◌≡◌, ℕ, ◌≤◌, List, length, get_or, sym, refl, ◌∙◌, subst, arith}
+use Rattle.std.proofs.Common.{◌≡◌, ◌≤◌, length, get_or, subst}
 use Rattle.std.specs.Str.Parse.{ParsesUnsigned}
-use Rattle.lines.proofs.Numbers.{no_zero_first, digits_utf8, reads, AllDigits}
+use Rattle.lines.proofs.Numbers.{no_zero_first, digits_utf8, reads}
 use Rattle.lines.proofs.number.number.Goals as goal
 use Rattle.lines.proofs.number.number.Goals.{else-digits-gt1-via-then-digits-gt1+else-digits-eq48, else-digits-gt1-via-else-digits-gt1}
 

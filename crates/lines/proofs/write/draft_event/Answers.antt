@@ -1,5 +1,4 @@
 use Rattle.std.proofs.Common.{◌≡◌, [], ◌∷◌, length, ap, ◌∙◌, arith}
-use Rattle.book.specs.Events.{event_letter}
 use Rattle.lines.specs.Lines.{event_line, marked}
 use Rattle.lines.proofs.Ahead.{three_short, same_three}
 use Rattle.lines.proofs.write.draft_event.Goals as goal

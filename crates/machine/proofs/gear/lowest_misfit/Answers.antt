@@ -1,4 +1,4 @@
-use Rattle.std.proofs.Common.{◌≤◌, length, arith}
+use Rattle.std.proofs.Common.{arith}
 use Rattle.gearing.specs.Gearing.{misfit_at}
 use Rattle.machine.proofs.Lowest.{lowest_found, lowest_more, lowest_none}
 use Rattle.machine.proofs.gear.lowest_misfit.Goals as goal

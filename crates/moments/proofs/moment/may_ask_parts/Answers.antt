@@ -1,4 +1,4 @@
-use Rattle.std.proofs.Common.{◌≡◌, ◌*◌, ◌/◌, ◌<◌, ◌≤◌, true, ◌&&◌, leb, sym, ap, ◌∙◌, le-div_iff_mul-le, arith}
+use Rattle.std.proofs.Common.{◌/◌, ◌<◌, ◌≤◌, ◌&&◌, leb, sym, ap, ◌∙◌, le-div_iff_mul-le, arith}
 use Rattle.std.proofs.lemmas.Bool.{le-leb, leb-true}
 use Rattle.moments.proofs.moment.may_ask_parts.Goals as goal
 

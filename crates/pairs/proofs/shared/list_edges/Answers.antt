@@ -1,4 +1,4 @@
-use Rattle.std.proofs.Common.{◌≡◌, ℕ, ◌≤◌, false, cond, ltb, List, [], length, take, sym, ap, ◌∙◌, arith}
+use Rattle.std.proofs.Common.{◌≡◌, false, cond, ltb, [], length, take, sym, ap, ◌∙◌, arith}
 use Rattle.book.specs.Bytes.{two, row}
 use Rattle.book.specs.Chains.{chain_of, whole_records}
 use Rattle.links.specs.Walks.{short}

@@ -1,4 +1,4 @@
-use Rattle.std.proofs.Common.{◌≡◌, ◌<◌, ◌≤◌, sym, ap, ◌∙◌, arith}
+use Rattle.std.proofs.Common.{◌<◌, ◌≤◌, sym, ap, ◌∙◌, arith}
 use Rattle.book.specs.Chains.{next_index}
 use Rattle.links.proofs.Chains.{chain_at_0, chain_past, chain_spent}
 use Rattle.places.proofs.Firsts.{looking_start, looking_found, looking_more, looking_none}

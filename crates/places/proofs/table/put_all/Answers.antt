@@ -1,4 +1,4 @@
-use Rattle.std.proofs.Common.{◌+◌, get_or, drop, set, sym, ap, ◌∙◌}
+use Rattle.std.proofs.Common.{◌+◌, drop, set, sym, ap, ◌∙◌}
 use Rattle.places.specs.Tables.{listed, placed}
 use Rattle.places.proofs.Filling.{listed_more, placed_more, listed_all, placed_all}
 use Rattle.places.proofs.table.put_all.Goals as goal

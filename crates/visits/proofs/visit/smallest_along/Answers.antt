@@ -1,9 +1,8 @@
 use Rattle.std.proofs.Common.{◌≡◌, ℕ, ◌-◌, false, cond, [], take, replicate, sym, ap, ◌∙◌, arith}
 use Rattle.book.specs.Chains.{chain_of}
-use Rattle.links.specs.Walks.{short, walk_list}
+use Rattle.links.specs.Walks.{short}
 use Rattle.links.proofs.Listed.{walk_listed, walk_had_room}
 use Rattle.visits.specs.Smallest.{smallest, along}
-use Rattle.visits.specs.Visits.{followed}
 use Rattle.visits.proofs.visit.smallest_along.Goals as goal
 
 pub returns-in-Ok : goal.returns-in-Ok

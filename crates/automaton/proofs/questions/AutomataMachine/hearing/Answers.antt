@@ -1,4 +1,4 @@
-use Rattle.std.proofs.Common.{◌≡◌, sym, ap, ◌∙◌}
+use Rattle.std.proofs.Common.{sym, ap, ◌∙◌}
 use Rattle.book.specs.declared.record.Automaton.{Automaton}
 use Rattle.book.specs.declared.record.Location.{Location}
 use Rattle.semantics.specs.Times.{fraction}

@@ -1,4 +1,4 @@
-use Rattle.std.proofs.Common.{◌*◌, Some, sym, ap, ◌∙◌, arith}
+use Rattle.std.proofs.Common.{◌*◌, ap, ◌∙◌}
 use Rattle.places.proofs.Asking.{unknown_hearing}
 use Rattle.model.proofs.Answers.{stations_told, station_there, known_here, unknown_heard, too_fine, deaf, hearing_told}
 use Rattle.model.proofs.Known.{as_phase_of}

@@ -1,6 +1,6 @@
 use Rattle.std.proofs.Common.{◌∙◌}
 use Rattle.places.proofs.Asking.{unknown_station}
-use Rattle.model.proofs.Answers.{stations_told, place_low, scale_told}
+use Rattle.model.proofs.Answers.{stations_told, scale_told}
 use Rattle.model.proofs.questions.ModelMachine.scale.Goals as goal
 
 pub returns-in_err-place : goal.returns-in_err-place

@@ -1,5 +1,5 @@
-use Rattle.std.proofs.Common.{◌≡◌, ◌-◌, min, take, sym, ap, ◌∙◌, arith}
-use Rattle.visits.specs.Visits.{stations, followed}
+use Rattle.std.proofs.Common.{◌≡◌, ◌-◌, min, take, ap, ◌∙◌, arith}
+use Rattle.visits.specs.Visits.{followed}
 use Rattle.places.specs.Tables.{places_along}
 use Rattle.places.proofs.Filling.{walk_followed, front_followed, walk_refused}
 use Rattle.places.proofs.table.Places.over.Goals as goal

@@ -1,6 +1,6 @@
 use Rattle.std.proofs.Common.{ℕ, List, ap, ◌∙◌}
 use Rattle.book.specs.Bytes.{two, row}
-use Rattle.visits.specs.Smallest.{smallest, along, only_if}
+use Rattle.visits.specs.Smallest.{smallest, only_if}
 use Rattle.visits.specs.Visits.{edge_faults, word_faults}
 use Rattle.visits.proofs.Least.{of_both, found_along}
 use Rattle.visits.proofs.rule.PhasesVisit.visit.Goals as goal
