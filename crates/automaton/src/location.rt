@@ -11,43 +11,29 @@ ghost use Rattle.automaton.specs.Records.{location_tree, word_sent};
 
 use super::automata::Automata;
 use book::record::{AutomatonBody, Label, Word};
-use chains::member::Test;
 use fields::automaton::{location_at, transition_at};
 use moments::moment::Moment;
 use moments::window::{does_hear, is_inside};
 use places::search::first_in_chain;
 use semantics::state::Move;
 
-// A transition that does not hear.
-#[derive(Drop)]
-struct Moving;
-
-impl Test for Moving {
-    ghost passing = { λ v b i k. is_move (transition_at b k).label };
-
-    fn passes(&self, book: &[u8], place: usize, k: u16) -> bool {
-        match transition_at(book, k).label {
-            Label::Silent => true,
-            Label::Hears { .. } => false,
-            Label::Sends { .. } => true,
-        }
+// Whether transition t does not hear.
+fn is_moving(book: &[u8], t: u16) -> bool
+    ensures { result ≡ is_move (transition_at book.now t).label }
+{
+    match transition_at(book, t).label {
+        Label::Silent => true,
+        Label::Hears { .. } => false,
+        Label::Sends { .. } => true,
     }
 }
 
-// A transition that takes a word at a time of the clock.
-#[derive(Drop)]
-struct Taking {
-    word: Word,
-    clock: Moment,
-}
-
-impl Test for Taking {
-    ghost passing = { λ v b i k. label_fits (transition_at b k).label v.word.port v.word.value && inside whole (transition_at b k).guard (time_of v.clock) };
-
-    fn passes(&self, book: &[u8], place: usize, k: u16) -> bool {
-        let transition = transition_at(book, k);
-        does_hear(transition.label, self.word) && is_inside(transition.guard, self.clock)
-    }
+// Whether transition t takes the word at that time of the clock.
+fn does_take(book: &[u8], word: Word, clock: Moment, t: u16) -> bool
+    ensures { result ≡ (label_fits (transition_at book.now t).label word.port word.value && inside whole (transition_at book.now t).guard (time_of clock)) }
+{
+    let transition = transition_at(book, t);
+    does_hear(transition.label, word) && is_inside(transition.guard, clock)
 }
 
 // The word that a transition with this label sends.
@@ -67,7 +53,11 @@ impl Automata<'_> {
         ensures { result ≡ move_among (location_tree self.now.book.now station k).transitions }
     {
         let first = location_at(self.book, k).first_transition;
-        let found = first_in_chain::<AutomatonBody, Moving>(&Moving, self.book, first)?;
+        let found = first_in_chain::<AutomatonBody, _>(
+            self.book,
+            first,
+            |at| is_moving(self.book, at.1),
+        )?;
         let transition = transition_at(self.book, found);
         Some(Move {
             word: word_sent(transition.label),
@@ -81,8 +71,9 @@ impl Automata<'_> {
         ensures { result ≡ first (transition_fits word.port word.value (time_of clock)) (λ x. x.goal) (location_tree self.now.book.now station k).transitions }
     {
         let first = location_at(self.book, k).first_transition;
-        let test = Taking { word, clock };
-        let found = first_in_chain::<AutomatonBody, Taking>(&test, self.book, first)?;
+        let found = first_in_chain::<AutomatonBody, _>(self.book, first, |at| {
+            does_take(self.book, word, clock, at.1)
+        })?;
         Some(u32::from(self.places.place_of(transition_at(self.book, found).goal)))
     }
 }

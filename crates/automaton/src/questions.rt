@@ -63,8 +63,7 @@ impl Machine for Automata<'_> {
         &self,
         station: usize,
         stance: u32,
-        port: u8,
-        value: u8,
+        word: Word,
         elapsed: u64,
         per_tick: u64,
     ) -> Option<Option<u32>> {
@@ -81,6 +80,6 @@ impl Machine for Automata<'_> {
         if !is_within_bound(location_at(self.book, k).bound, clock) {
             return Some(None);
         }
-        Some(self.heard(place, k, Word { port, value }, clock))
+        Some(self.heard(place, k, word, clock))
     }
 }

@@ -10,7 +10,7 @@ ghost use Rattle.automaton_moves.specs.Rules.{hears, hears_at, no_high_end, from
 
 use book::bytes::{row_of, two_at};
 use book::record::{AutomatonBody, HighEnd, Label, Location, Transition, Window};
-use chains::member::{Test, any_in_chain, chain_length};
+use chains::member::{any_in_chain, chain_length};
 use fields::automaton::{location_at, transition_at};
 use visits::rule::{Rules, first_fault};
 
@@ -71,63 +71,25 @@ fn is_wrong_transition(location: Location, goal: Location, transition: Transitio
     }
 }
 
-// The transitions that hear.
-#[derive(Drop)]
-struct Hearing;
-
-impl Test for Hearing {
-    ghost passing = { λ _ b i t. hears_at b t };
-
-    fn passes(&self, book: &[u8], place: usize, k: u16) -> bool {
-        hears_at(book, k)
+// Whether transition t, at that place of so many, is the last and hears, or is not and does not.
+fn is_misplaced(book: &[u8], count: usize, place: usize, t: u16) -> bool
+    ensures { result ≡ misplaced book.now count place t }
+{
+    let last = place < count && count - place == 1;
+    if last {
+        hears_at(book, t)
+    } else {
+        !hears_at(book, t)
     }
 }
 
-// The transitions that do not hear.
-#[derive(Drop)]
-struct Moving;
-
-impl Test for Moving {
-    ghost passing = { λ _ b i t. not (hears_at b t) };
-
-    fn passes(&self, book: &[u8], place: usize, k: u16) -> bool {
-        !hears_at(book, k)
-    }
-}
-
-// Of so many transitions the last, where it hears, and the others that do not.
-#[derive(Drop)]
-struct Misplaced {
-    count: usize,
-}
-
-impl Test for Misplaced {
-    ghost passing = { λ v b i t. misplaced b v.count i t };
-
-    fn passes(&self, book: &[u8], place: usize, k: u16) -> bool {
-        let last = place < self.count && self.count - place == 1;
-        if last {
-            hears_at(book, k)
-        } else {
-            !hears_at(book, k)
-        }
-    }
-}
-
-// The transitions of a location with a wrong reset or guard.
-#[derive(Drop)]
-struct WrongTransition {
-    location: u16,
-}
-
-impl Test for WrongTransition {
-    ghost passing = { λ v b i t. wrong_transition_at b v.location t };
-
-    fn passes(&self, book: &[u8], place: usize, k: u16) -> bool {
-        let transition = transition_at(book, k);
-        let goal = location_at(book, transition.goal);
-        is_wrong_transition(location_at(book, self.location), goal, transition)
-    }
+// Whether transition t of location l has a wrong reset or guard.
+fn is_wrong_at(book: &[u8], l: u16, t: u16) -> bool
+    ensures { result ≡ wrong_transition_at book.now l t }
+{
+    let transition = transition_at(book, t);
+    let goal = location_at(book, transition.goal);
+    is_wrong_transition(location_at(book, l), goal, transition)
 }
 
 // Whether the location, whose transitions are the chain from `first` on, has not the moves that it
@@ -137,9 +99,14 @@ fn has_wrong_moves(book: &[u8], location: Location, first: u16) -> bool
 {
     if location.bound.is_some() || location.committed {
         let count = chain_length::<AutomatonBody>(book, first);
-        count == 0 || any_in_chain::<AutomatonBody, Misplaced>(&Misplaced { count }, book, first)
+        count == 0
+            || any_in_chain::<AutomatonBody, _>(
+                book,
+                first,
+                |(place, t)| is_misplaced(book, count, place, t),
+            )
     } else {
-        any_in_chain::<AutomatonBody, Moving>(&Moving, book, first)
+        any_in_chain::<AutomatonBody, _>(book, first, |(_, t)| !hears_at(book, t))
     }
 }
 
@@ -148,7 +115,8 @@ fn has_wrong_marks(book: &[u8], location: Location, first: u16) -> bool
     ensures { result ≡ wrong_marks book.now location (followed book.now first) }
 {
     location.bound.is_some() && location.committed
-        || location.committed && any_in_chain::<AutomatonBody, Hearing>(&Hearing, book, first)
+        || location.committed
+            && any_in_chain::<AutomatonBody, _>(book, first, |(_, t)| hears_at(book, t))
 }
 
 // Whether location l, with those fields and the transitions from `first` on, is not as printing
@@ -156,10 +124,9 @@ fn has_wrong_marks(book: &[u8], location: Location, first: u16) -> bool
 fn is_wrong_with(book: &[u8], l: u16, fields: Location, first: u16) -> bool
     ensures { result ≡ wrong_with book.now l fields (followed book.now first) }
 {
-    let wrong = WrongTransition { location: l };
     has_wrong_marks(book, fields, first)
         || has_wrong_moves(book, fields, first)
-        || any_in_chain::<AutomatonBody, WrongTransition>(&wrong, book, first)
+        || any_in_chain::<AutomatonBody, _>(book, first, |(_, t)| is_wrong_at(book, l, t))
 }
 
 // Whether location l is not as printing writes one.

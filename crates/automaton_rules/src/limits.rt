@@ -28,33 +28,19 @@ fn most_ticks(book: &[u8], a: u16) -> u64
 fn is_wrong_bound(most: u64, bound: Option<u64>) -> bool
     ensures { result ≡ wrong_bound most bound }
 {
-    match bound {
-        Some(ticks) => ticks > most,
-        None => false,
-    }
+    bound.is_some_and(|ticks| ticks > most)
 }
 
 fn is_wrong_high(most: u64, high: HighEnd<u64>) -> bool
     ensures { result ≡ wrong_high most high }
 {
-    match high {
-        HighEnd::Closed(ticks) => ticks > most,
-        HighEnd::Open(ticks) => ticks > most,
-        HighEnd::Absent => false,
-    }
+    is_wrong_bound(most, high.end())
 }
 
 fn has_wrong_values(label: Label) -> bool
     ensures { result ≡ wrong_values label }
 {
-    match label {
-        Label::Hears {
-            port: _,
-            lowest,
-            highest,
-        } => highest < lowest,
-        _ => false,
-    }
+    matches!(label, Label::Hears { lowest, highest, .. } if highest < lowest)
 }
 
 fn is_wrong_transition(most: u64, transition: Transition) -> bool

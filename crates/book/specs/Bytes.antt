@@ -1,5 +1,6 @@
 -- The bytes of a book, as a list of numbers below 256, and the numbers in them.
-use Rattle.std.specs.Prelude.{◌≡◌, ℕ, ◌+◌, ◌*◌, ◌/◌, ◌%◌, Bool, true, ◌&&◌, List, [], ◌∷◌, length, take, drop, ◌==◌, slice_index, slice_range}
+use Rattle.std.specs.Prelude.{◌≡◌, ℕ, ◌+◌, ◌*◌, ◌/◌, ◌%◌, Bool, List, [], ◌∷◌, length, take, drop, ◌==◌, slice_index, slice_range}
+use Rattle.std.specs.List.{list_all}
 
 -- byte i, 0 past the end
 abbrev pub at : List ℕ → ℕ → ℕ
@@ -32,8 +33,7 @@ abbrev pub row : List ℕ → ℕ → List ℕ
 row b i = take 32 (drop (32 * i) b)
 
 abbrev pub all_zero : List ℕ → Bool
-all_zero [] = true
-all_zero (x ∷ xs) = x == 0 && all_zero xs
+all_zero b = list_all (λ x. x == 0) b
 
 -- the bytes from i up to, and without, j are zero
 abbrev pub zeros : List ℕ → ℕ → ℕ → Bool

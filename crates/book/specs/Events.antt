@@ -1,6 +1,7 @@
 -- The letter of each kind of event, as a character's code.
 use Rattle.std.specs.Prelude.{ℕ, cond, Some, None, Option, ◌==◌}
 use Rattle.book.specs.declared.event.EventKind.{EventKind}
+use Rattle.book.specs.declared.event.UnknownLetter.{UnknownLetter}
 use Rattle.book.specs.declared.event.EventKind.TheVariants.{Arrival, External, Output, Internal, Created}
 
 -- '?', 'E', 'O', 'I' and 'C'
@@ -18,3 +19,7 @@ event_of_letter c =
     let output = cond (c == 79) (Some Output) internal in
     let external = cond (c == 69) (Some External) output in
     cond (c == 63) (Some Arrival) external
+
+-- the error of a letter that tells no event
+abbrev pub unknown_letter : ℕ → UnknownLetter
+unknown_letter c = record { 0 = c }

@@ -3,3 +3,4 @@ pub mod Terms
 pub mod Events
 pub mod Bytes
 pub mod Chains
+pub mod Ends

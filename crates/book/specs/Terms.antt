@@ -1,11 +1,12 @@
 -- Kinds of book and of record, and the order of a net, by their bytes.
-use Rattle.std.specs.Prelude.{ℕ, cond, Some, None, Option, ◌==◌}
+use Rattle.std.specs.Prelude.{ℕ, Bool, cond, Some, None, Option, ◌||◌, ◌==◌, nat_lt}
 use Rattle.book.specs.declared.term.BookKind.{BookKind}
 use Rattle.book.specs.declared.term.BookKind.TheVariants.{Model, Automaton}
 use Rattle.book.specs.declared.term.Order.{Order}
 use Rattle.book.specs.declared.term.Order.TheVariants.{StepFirst, WordFirst}
 use Rattle.book.specs.declared.term.Kind.{Kind}
 use Rattle.book.specs.declared.term.Kind.TheVariants.{Station, Phase, Edge, Word, Path}
+use Rattle.book.specs.declared.term.Path.{Path as Ends}
 
 -- byte 0 of the head: 'M' or 'A'
 abbrev pub book_byte : BookKind → ℕ
@@ -35,3 +36,15 @@ kind_byte Phase = 2
 kind_byte Edge = 3
 kind_byte Word = 4
 kind_byte Path = 5
+
+abbrev pub kind_of_byte : ℕ → Option Kind
+kind_of_byte b =
+    let path = cond (b == 5) (Some Path) None in
+    let word = cond (b == 4) (Some Word) path in
+    let edge = cond (b == 3) (Some Edge) word in
+    let phase = cond (b == 2) (Some Phase) edge in
+    cond (b == 1) (Some Station) phase
+
+-- a path with an unknown station, with the same station twice, or from outside to outside
+abbrev pub wrong_ends : ℕ → Ends → Bool
+wrong_ends stations p = (nat_lt stations p.sender || nat_lt stations p.hearer) || p.sender == p.hearer

@@ -1,12 +1,12 @@
 // The bytes of a book, read where they lie. What lies past the end of a slice reads as 0.
-ghost use Rattle.std.specs.Prelude.{◌≡◌, ℕ, ◌+◌, ◌*◌, length, MatchOption, ◌≢◌};
+ghost use Rattle.std.specs.Prelude.{◌≡◌, ℕ, ◌+◌, length, drop, MatchOption, ◌≢◌};
 ghost use Rattle.book.specs.Bytes.{at, two, four, eight, row, zeros, Apart};
 
 // Byte i.
 pub fn byte_at(bytes: &[u8], i: usize) -> u8
     ensures { result ≡ at bytes.now i }
 {
-    if i < bytes.len() { bytes[i] } else { 0 }
+    bytes.get(i).copied().unwrap_or(0)
 }
 
 // The number in two bytes of a row from i on, the highest byte first.
@@ -14,7 +14,7 @@ pub fn two_at(bytes: &[u8], i: u8) -> u16
     ensures { result ≡ two bytes.now i }
 {
     let i = usize::from(i);
-    256 * u16::from(byte_at(bytes, i)) + u16::from(byte_at(bytes, i + 1))
+    u16::from_be_bytes([byte_at(bytes, i), byte_at(bytes, i + 1)])
 }
 
 // Four bytes from any place up to 65,535.
@@ -22,9 +22,12 @@ fn wide_at(bytes: &[u8], i: u16) -> u32
     ensures { result ≡ four bytes.now i }
 {
     let i = usize::from(i);
-    let high = 256 * u32::from(byte_at(bytes, i)) + u32::from(byte_at(bytes, i + 1));
-    let low = 256 * u32::from(byte_at(bytes, i + 2)) + u32::from(byte_at(bytes, i + 3));
-    65536 * high + low
+    u32::from_be_bytes([
+        byte_at(bytes, i),
+        byte_at(bytes, i + 1),
+        byte_at(bytes, i + 2),
+        byte_at(bytes, i + 3),
+    ])
 }
 
 // The number in four bytes of a row from i on.
@@ -46,12 +49,11 @@ pub fn eight_at(bytes: &[u8], i: u8) -> u64
 pub fn are_zero(bytes: &[u8], i: usize, j: usize) -> bool
     ensures { result ≡ zeros bytes.now i j }
 {
-    for k in i..j {
-        if byte_at(bytes, k) != 0 {
-            return false;
-        }
-    }
-    true
+    bytes
+        .iter()
+        .skip(i)
+        .take(j.saturating_sub(i))
+        .all(|byte| *byte == 0)
 }
 
 // The 32 bytes of record k, or what the book has of them. The head is record 0.
@@ -74,20 +76,33 @@ pub struct Parts<'a> {
     pub rest: &'a [u8],
 }
 
+// Record k, taken apart. What its row lacks reads as 0.
+pub fn parts_at(book: &[u8], k: u16) -> Parts<'_>
+    ensures kind { result.kind ≡ at (row book.now k) 0 }
+    ensures marks { result.marks ≡ at (row book.now k) 1 }
+    ensures next { result.next ≡ two (row book.now k) 2 }
+    ensures rest { result.rest.now ≡ drop 4 (row book.now k) }
+{
+    let row = row_of(book, k);
+    Parts {
+        kind: byte_at(row, 0),
+        marks: byte_at(row, 1),
+        next: two_at(row, 2),
+        rest: &row[row.len().min(4)..],
+    }
+}
+
 // Nothing where the row is not of 32 bytes.
 pub fn take_apart(bytes: &[u8]) -> Option<Parts<'_>>
     ensures { MatchOption result (length bytes.now ≢ 32) (λ p. Apart bytes.now p.kind p.marks p.next p.rest.now) }
 {
-    if bytes.len() != 32 {
+    let [kind, marks, next_high, next_low, rest @ ..] = bytes else {
         return None;
-    }
-    match bytes {
-        [kind, marks, next_high, next_low, rest @ ..] => Some(Parts {
-            kind: *kind,
-            marks: *marks,
-            next: 256 * u16::from(*next_high) + u16::from(*next_low),
-            rest,
-        }),
-        _ => None,
-    }
+    };
+    (bytes.len() == 32).then_some(Parts {
+        kind: *kind,
+        marks: *marks,
+        next: u16::from_be_bytes([*next_high, *next_low]),
+        rest,
+    })
 }

@@ -1,9 +1,13 @@
 // Events: what a net tells of each call.
 ghost use Rattle.std.specs.Prelude.{◌≡◌};
-ghost use Rattle.book.specs.Events.{event_letter, event_of_letter};
+ghost use Rattle.std.specs.Option.{ok_or};
+ghost use Rattle.book.specs.Events.{event_letter, event_of_letter, unknown_letter};
+
+use std::error::Error;
+use std::fmt;
 
 // What happened.
-#[derive(Clone, Copy, PartialEq, Debug)]
+#[derive(Clone, Copy, PartialEq, Eq, Debug)]
 pub enum EventKind {
     // a word arrives at a station's port, or outside
     Arrival,
@@ -17,12 +21,12 @@ pub enum EventKind {
     Created,
 }
 
-impl EventKind {
-    // The letter by which an event is told.
-    pub fn letter(self) -> char
-        ensures { result ≡ event_letter self }
-    {
-        match self {
+// The letter by which an event is told.
+impl From<EventKind> for char {
+    ghost from_gives = { λ kind letter. letter ≡ event_letter kind };
+
+    fn from(kind: EventKind) -> char {
+        match kind {
             EventKind::Arrival => '?',
             EventKind::External => 'E',
             EventKind::Output => 'O',
@@ -30,24 +34,40 @@ impl EventKind {
             EventKind::Created => 'C',
         }
     }
+}
 
-    pub fn from_letter(letter: char) -> Option<EventKind>
-        ensures { result ≡ event_of_letter letter }
-    {
+// A letter that tells no event.
+#[derive(Clone, Copy, PartialEq, Eq, Debug)]
+pub struct UnknownLetter(pub char);
+
+impl fmt::Display for UnknownLetter {
+    fn fmt<W: fmt::Write>(&self, f: &mut fmt::Formatter<W>) -> fmt::Result {
+        write!(f, "no event has the letter {}", self.0)
+    }
+}
+
+impl Error for UnknownLetter {}
+
+impl TryFrom<char> for EventKind {
+    type Error = UnknownLetter;
+
+    ghost try_from_gives = { λ letter answer. answer ≡ ok_or (event_of_letter letter) (unknown_letter letter) };
+
+    fn try_from(letter: char) -> Result<EventKind, UnknownLetter> {
         match letter {
-            '?' => Some(EventKind::Arrival),
-            'E' => Some(EventKind::External),
-            'O' => Some(EventKind::Output),
-            'I' => Some(EventKind::Internal),
-            'C' => Some(EventKind::Created),
-            _ => None,
+            '?' => Ok(EventKind::Arrival),
+            'E' => Ok(EventKind::External),
+            'O' => Ok(EventKind::Output),
+            'I' => Ok(EventKind::Internal),
+            'C' => Ok(EventKind::Created),
+            _ => Err(UnknownLetter(letter)),
         }
     }
 }
 
 // An event. Of an arrival outside the station is 0; of E, I and C the port is 0 and the value is
 // the new phase, which has two bytes.
-#[derive(Clone, Copy, PartialEq, Debug)]
+#[derive(Clone, Copy, PartialEq, Eq, Debug)]
 pub struct Event {
     pub kind: EventKind,
     pub station: u8,

@@ -2,8 +2,7 @@
 
 #![tactic(auto)]
 
-ghost use Rattle.std.specs.Prelude.{◌≡◌, Ok};
-ghost use Rattle.structure.specs.Structure.{unless, at_0};
+ghost use Rattle.std.specs.Prelude.{◌≡◌};
 ghost use Rattle.book_check.specs.Check.{check_model, check_automaton, check_of};
 
 use automaton_moves::first_wrong_location;
@@ -19,27 +18,8 @@ use book_scales::book_scale::{
 use chains::path::first_wrong_path;
 use model_rules::{goals as model_goals, limits as model_limits};
 use model_windows::{first_empty_window, first_shared_moment};
+use structure::refuse::{refuse, whole_book};
 use structure::structure;
-
-// Refuses for the fault at the place where it was found.
-fn refuse(fault: Fault, found: Option<u16>) -> Result<(), Refusal>
-    ensures { result ≡ unless found fault (Ok tt) }
-{
-    match found {
-        Some(record) => Err(Refusal {
-            fault,
-            place: usize::from(record),
-        }),
-        None => Ok(()),
-    }
-}
-
-// The place of a fault of the whole book.
-fn whole_book(wrong: bool) -> Option<u16>
-    ensures { result ≡ at_0 wrong }
-{
-    if wrong { Some(0) } else { None }
-}
 
 // The rules of a model book whose structure is right.
 fn check_model(book: &[u8]) -> Result<BookKind, Refusal>

@@ -26,29 +26,26 @@ mod tests {
         \x05\x00\x00\x08\x00\x01\x01\x01\x00\x00\x00\x00\x00\x00\x00\x00\x00\x00\x00\x00\x00\x00\x00\x00\x00\x00\x00\x00\x00\x00\x00\x00\
         \x05\x00\x00\x00\x01\x02\x00\x04\x00\x00\x00\x00\x00\x00\x00\x00\x00\x00\x00\x00\x00\x00\x00\x00\x00\x00\x00\x00\x00\x00\x00\x00";
 
+    // Numbers and places are compared, as they are told.
     // A refusal as its number and place, or 0 and what was answered.
     fn told(res: Result<usize, Refusal>) -> (u8, usize) {
         match res {
             Ok(answer) => (0, answer),
-            Err(refusal) => (refusal.fault.number(), refusal.place),
+            Err(refusal) => (u8::from(refusal.fault), refusal.place),
         }
     }
 
     // The kind of book counts as 77 or 65.
     fn judged(book: &[u8]) -> (u8, usize) {
-        match structure(book) {
-            Ok(kind) => told(Ok(usize::from(kind.byte()))),
-            Err(refusal) => told(Err(refusal)),
-        }
+        told(structure(book).map(|kind| usize::from(u8::from(kind))))
     }
 
     // The relay with some bytes changed.
     fn damaged(changes: &[(usize, u8)]) -> [u8; 288] {
         let mut book = *RELAY;
-        for change in changes {
-            let (place, byte) = *change;
-            if place < 288 {
-                book[place] = byte;
+        for (place, byte) in changes {
+            if let Some(slot) = book.get_mut(*place) {
+                *slot = *byte;
             }
         }
         book
@@ -198,10 +195,7 @@ mod tests {
     };
 
     fn read_told(book: &[u8], k: u16) -> (u8, usize) {
-        match read::<ModelBody>(book, k) {
-            Ok(item) => (0, usize::from(item.next)),
-            Err(refusal) => told(Err(refusal)),
-        }
+        told(read::<ModelBody>(book, k).map(|item| usize::from(item.next)))
     }
 
     #[test]
@@ -218,8 +212,8 @@ mod tests {
     // The relay, record by record.
     fn relay_records() -> Result<[Record<ModelBody>; 8], Refusal> {
         let mut list = [WORD; 8];
-        for k in 0..8u16 {
-            list[usize::from(k)] = read::<ModelBody>(RELAY, k + 1)?;
+        for (item, k) in list.iter_mut().zip(1..) {
+            *item = read::<ModelBody>(RELAY, k)?;
         }
         Ok(list)
     }
@@ -273,10 +267,7 @@ mod tests {
     fn texts_tell_refusals(rt: HostRuntime) -> Result<(), Fail> {
         let heap = rt.alloc();
         let book = damaged(&[(129, 6)]);
-        let refusal = Refusal {
-            fault: Fault::Layout,
-            place: 4,
-        };
+        let refusal = Fault::Layout.at(4);
         let text = refusal_text(heap, &book, refusal)?;
         assert_eq!(rt;
             text.as_str(),

@@ -1,74 +1,43 @@
 // The records of a chain.
-ghost use Rattle.std.specs.Prelude.{◌≡◌, ℕ, Bool, List, length, ◌==◌};
-ghost use Rattle.visits.specs.Smallest.{only_if};
-ghost use Rattle.visits.specs.Visits.{followed};
+ghost use Rattle.std.specs.Prelude.{◌≡◌, ℕ, Bool, not, length};
+ghost use Rattle.std.specs.Iterator.{ActsAs};
+ghost use Rattle.visits.specs.Visits.{followed, phases};
 ghost use Rattle.chains.specs.Some.{some_at, among};
 
+use book::bytes::{row_of, two_at};
 use links::link::Linked;
-use links::walk::walk;
-use visits::visit::{Visit, if_broken, smallest_along};
+use visits::visit::followed;
 
-// A test of the records of a book.
-pub trait Test {
-    // whether record k of the book passes, by its place in the chain, counted from 0
-    ghost passing: { Self → List ℕ → ℕ → ℕ → Bool };
-
-    fn passes(&self, book: &[u8], place: usize, k: u16) -> bool
-        ensures { result ≡ passing self.now book.now place k };
-}
-
-// The records that pass.
-#[derive(Drop)]
-struct Passing<'a, T> {
-    test: &'a T,
-}
-
-impl<T: Test> Visit for Passing<'_, T> {
-    ghost found = { λ v b i k. only_if (T.Test.passing v.test.now b i k) k };
-
-    fn visit(&self, book: &[u8], place: usize, k: u16) -> Option<u16> {
-        if_broken(self.test.passes(book, place, k), k)
-    }
-}
-
-// Whether some record of the chain from `first` on passes the test.
-pub fn any_in_chain<R: Linked, T: Test>(test: &T, book: &[u8], first: u16) -> bool
-    ensures { result ≡ some_at (T.Test.passing test.now book.now) 0 (followed book.now first) }
+// Whether some record of the chain from `first` on passes the test, which is told its place there,
+// counted from 0.
+pub fn any_in_chain<R: Linked, F: Fn((usize, u16)) -> bool>(
+    book: &[u8],
+    first: u16,
+    test: F,
+) -> bool
+    requires { (f : _) (at : _) → F.FnMut.pre f at }
+    ensures { (passes : ℕ → ℕ → Bool) → ActsAs F.FnMut test (λ at. passes at.0 at.1) → result ≡ some_at passes 0 (followed book.now first) }
 {
-    match smallest_along::<R, Passing<'_, T>>(&Passing { test }, book, first) {
-        Some(_) => true,
-        None => false,
-    }
-}
-
-// A record by its number.
-#[derive(Drop)]
-struct Is {
-    number: u16,
-}
-
-impl Test for Is {
-    ghost passing = { λ v b i k. (k == v.number) };
-
-    fn passes(&self, book: &[u8], place: usize, k: u16) -> bool {
-        k == self.number
-    }
+    followed::<R>(book, first).enumerate().any(test)
 }
 
 // Whether the record is in the chain from `first` on.
 pub fn is_in_chain<R: Linked>(book: &[u8], first: u16, number: u16) -> bool
     ensures { result ≡ among number (followed book.now first) }
 {
-    any_in_chain::<R, Is>(&Is { number }, book, first)
+    any_in_chain::<R, _>(book, first, |(_, k)| k == number)
+}
+
+// Whether record k is no phase of station s, or no location of automaton s.
+pub fn is_outside<R: Linked>(book: &[u8], s: u16, k: u16) -> bool
+    ensures { result ≡ not (among k (phases book.now s)) }
+{
+    !is_in_chain::<R>(book, two_at(row_of(book, s), 4), k)
 }
 
 // How many records the chain from `first` on has.
 pub fn chain_length<R: Linked>(book: &[u8], first: u16) -> usize
     ensures { result ≡ length (followed book.now first) }
 {
-    let mut list = [0; 2000];
-    match walk::<R>(book, first, &mut list) {
-        Ok(count) => count,
-        Err(_) => 0,
-    }
+    followed::<R>(book, first).count()
 }

@@ -3,40 +3,20 @@
 
 #![tactic(auto)]
 
-use anyhow::anyhow;
 use book_check::check;
+use std::alloc::Global;
 use std::io::{BufRead, BufReader};
 
 const ROW: usize = 32;
 
-fn digit(code: u8) -> anyhow::Result<u8> {
-    match code {
-        b'0'..=b'9' => Ok(code - b'0'),
-        b'a'..=b'f' => Ok(code - b'a' + 10),
-        _ => Err(anyhow!("not a hex number")),
-    }
-}
-
-fn push_bytes(book: &mut Vec<u8>, hex: &str) -> anyhow::Result<()> {
-    for pair in hex.as_bytes().chunks(2) {
-        let [high, low] = pair else {
-            return Err(anyhow!("not a hex number"));
-        };
-        let byte = (digit(*high)? << 4) | digit(*low)?;
-        book.push(byte)?;
-    }
-    Ok(())
-}
-
-fn push_row(book: &mut Vec<u8>, row: &str) -> anyhow::Result<()> {
+// The bytes of a row.
+fn row_bytes(heap: Global, row: &str) -> anyhow::Result<Vec<u8>> {
     if let Some(part) = row.strip_suffix('.') {
-        return push_bytes(book, part);
+        return Ok(hex::decode(heap, part)?);
     }
-    push_bytes(book, row)?;
-    for _ in row.len() / 2..ROW {
-        book.push(0)?;
-    }
-    Ok(())
+    let mut bytes = hex::decode(heap, row)?;
+    bytes.resize(bytes.len().max(ROW), 0)?;
+    Ok(bytes)
 }
 
 // Answers a line.
@@ -47,12 +27,12 @@ fn judge(rt: &HostRuntime, line: &str) -> anyhow::Result<()> {
     };
     let mut book = Vec::new(rt.alloc());
     for row in words {
-        push_row(&mut book, row)?;
+        book.extend_from_slice(&row_bytes(rt.alloc(), row)?)?;
     }
     match check(&book) {
         Ok(_) => println!(rt; "{name} ok")?,
         Err(refusal) => {
-            let number = refusal.fault.number();
+            let number = u8::from(refusal.fault);
             let place = refusal.place;
             println!(rt; "{name} - {number} {place}")?;
         }

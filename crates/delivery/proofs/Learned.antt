@@ -1,14 +1,12 @@
 -- What the answers of a machine tell of what is learned of it.
-use Rattle.std.proofs.Common.{◌≡◌, ℕ, zero, suc, ◌*◌, ◌/◌, ◌<◌, ◌≤◌, Bool, true, false, cond, ◌&&◌, ltb, leb, [], ◌∷◌, length, Some, None, Option, unwrap_or, sym, refl, ap, ◌∙◌, mul-le-mul, le-div_iff_mul-le, arith}
+use Rattle.std.proofs.Common.{◌≡◌, ℕ, zero, suc, ◌*◌, ◌/◌, ◌<◌, ◌≤◌, Bool, true, false, cond, ◌&&◌, ltb, leb, [], ◌∷◌, length, Option, sym, refl, ap, ◌∙◌, mul-le-mul, le-div_iff_mul-le, arith}
 use Rattle.std.specs.Bool.{then_some}
 use Rattle.std.specs.Option.{option_flatten}
 use Rattle.std.proofs.ByRecursion.{All-get_or}
 use Rattle.std.proofs.lemmas.List.{get_or_past}
 use Rattle.std.proofs.lemmas.Bool.{ltb-true, ltb-false, le-leb, and_from}
-use Rattle.semantics.specs.Machine.{Stance, StationMeaning, Meaning, SoundStation, Sound, meaning_at, blank_meaning, blank_stance}
-use Rattle.semantics.specs.Questions.{ask_stance, ask_hearing, parts_fit}
-use Rattle.machine.specs.declared.stance.StanceInfo.{StanceInfo}
-use Rattle.machine.specs.Stances.{told}
+use Rattle.semantics.specs.Machine.{StationMeaning, Meaning, SoundStation, Sound, meaning_at, blank_meaning, blank_stance}
+use Rattle.semantics.specs.Questions.{ask_hearing, parts_fit}
 use Rattle.delivery.specs.Known.{only_known, learned}
 
 -- past the end stands the blank, before and after
@@ -16,25 +14,6 @@ pub learned_at : (ms : Meaning) (i : ℕ) → meaning_at (learned ms) i ≡ only
 learned_at [] i = refl
 learned_at (m ∷ ms) zero = refl
 learned_at (m ∷ ms) (suc i) = learned_at ms i
-
--- a question about a stance is answered by what is learned of it, or else it is the blank
-asked : {X : Type 0} (ms : Meaning) (i s : ℕ) (what : Stance → X) → unwrap_or (ask_stance ms (suc i) s what) (what blank_stance) ≡ what ((meaning_at (learned ms) i).stance s)
-asked ms i s what = go (ltb i (length ms)) refl ∙ ap (λ m. what (m.stance s)) (sym (learned_at ms i))
-  where
-    go : (b : Bool) → ltb i (length ms) ≡ b →
-        unwrap_or (then_some (b && (meaning_at ms i).known s) (what ((meaning_at ms i).stance s))) (what blank_stance) ≡ what ((only_known (meaning_at ms i)).stance s)
-    go true h = known ((meaning_at ms i).known s)
-      where
-        known : (b : Bool) → unwrap_or (then_some b (what ((meaning_at ms i).stance s))) (what blank_stance) ≡ what (cond b ((meaning_at ms i).stance s) blank_stance)
-        known true = refl
-        known false = refl
-    go false h = ap (λ m. what ((only_known m).stance s)) (sym (get_or_past ms i blank_meaning (ltb-false _ _ h)))
-
-pub stance_told : (ms : Meaning) (i k s : ℕ) (x : StanceInfo) → k ≡ suc i → Some x ≡ ask_stance ms k s told → x ≡ told ((meaning_at (learned ms) i).stance s)
-stance_told ms i k s x z e = ap (λ o. unwrap_or o (told blank_stance)) (e ∙ ap (λ j. ask_stance ms j s told) z) ∙ asked ms i s told
-
-pub stance_untold : (ms : Meaning) (i k s : ℕ) → k ≡ suc i → None ≡ ask_stance ms k s told → told blank_stance ≡ told ((meaning_at (learned ms) i).stance s)
-stance_untold ms i k s z e = ap (λ o. unwrap_or o (told blank_stance)) (e ∙ ap (λ j. ask_stance ms j s told) z) ∙ asked ms i s told
 
 -- 1 to 1,000 parts per tick fit every scale
 parts_are_few : (m : StationMeaning) → SoundStation m → (q : ℕ) → 1 ≤ q → q ≤ 1000 → parts_fit m q ≡ true

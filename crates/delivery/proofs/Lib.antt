@@ -1,2 +1,3 @@
+pub mod Given
 pub mod Learned
 pub mod Telling

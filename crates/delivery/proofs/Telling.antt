@@ -1,6 +1,6 @@
 -- What is written of a delivery.
-use Rattle.std.proofs.Common.{◌≡◌, ℕ, zero, suc, ◌+◌, ◌-◌, ◌*◌, ◌<◌, ◌≤◌, Bool, true, false, cond, List, [], ◌∷◌, ◌++◌, length, get_or, take, drop, set, Some, None, Option, sym, refl, ap, ◌∙◌, subst, ap₂, append_assoc, append-nil, arith}
-use Rattle.std.proofs.lemmas.List.{take_more_set, drop-set-lt, length-set, drop-drop, at_drop_more, at_drop_all, get_or_past}
+use Rattle.std.proofs.Common.{◌≡◌, ℕ, zero, suc, ◌+◌, ◌-◌, ◌*◌, ◌<◌, ◌≤◌, Bool, true, false, cond, List, [], ◌∷◌, ◌++◌, length, get_or, take, drop, set, Some, None, Option, sym, refl, ap, ◌∙◌, subst, ap₂, append_assoc, append-nil, arith, take-append-drop, length-append, length-drop}
+use Rattle.std.proofs.lemmas.List.{take_more_set, drop-set-lt, length-set, length-take-le, take_all, take-append-le, drop-drop, drop_all, drop-append-le, at_drop_more, at_drop_all, get_or_past}
 use Rattle.book.specs.declared.term.Path.{Path}
 use Rattle.book.specs.declared.event.Event.{Event}
 use Rattle.semantics.specs.declared.state.StationState.{StationState}
@@ -56,6 +56,34 @@ told_then x f es es' es'' σ' σ'' n k m j r a b = record {
   rest = b.rest ∙ drop_on es' es m r b.low a.rest;
   left = b.left ∙ ap (λ σ. (f σ).stations) a.left;
 }
+
+-- what is told in the slots from m on is told of all the slots
+pub told_within : (x : Passed) (es ys : List Event) (σ : List StationState) (m j r : ℕ) → m + j ≤ length es → length ys ≡ length (take (length es - m) (drop m es)) →
+    Told x (take (length es - m) (drop m es)) ys σ 0 j r → Told x es (take m es ++ (ys ++ drop (length es - m) (drop m es))) σ m j (m + r)
+told_within x es ys σ m j r room same t =
+    let k = length es - m in
+    let rest-long : length (drop m es) ≡ length es - m = length-drop m es in
+    let mid : take k (drop m es) ≡ drop m es = take_all k (drop m es) (omega arith) in
+    let long : length ys ≡ length es - m = same ∙ ap length mid ∙ rest-long in
+    let few : r ≤ length ys = let h = t.high in omega arith in
+    let count : length x.news ≡ r = sym (ap length t.front) ∙ length-take-le r ys few in
+    let is : ys ≡ x.news ++ drop r (drop m es) = sym (take-append-drop r ys) ∙ ap₂ ◌++◌ t.front (t.rest ∙ ap (drop r) mid) in
+    let whole : take m es ++ (ys ++ drop k (drop m es)) ≡ (take m es ++ x.news) ++ drop (m + r) es =
+    ap₂ (λ y z. take m es ++ (y ++ z)) is (drop_all k (drop m es) (omega arith)) ∙ ap (λ z. take m es ++ z) (append-nil (x.news ++ drop r (drop m es)))
+    ∙ ap (λ z. take m es ++ (x.news ++ z)) (drop-drop r m es) ∙ sym (append_assoc (take m es) x.news (drop (m + r) es))
+    in
+    let front-long : length (take m es ++ x.news) ≡ m + r = length-append (take m es) x.news ∙ ap₂ ◌+◌ (length-take-le m es (omega arith)) count in
+    record {
+      low = omega arith;
+      high = let h = t.high in omega arith;
+      front =
+          ap (take (m + r)) whole ∙ take-append-le (m + r) (take m es ++ x.news) (drop (m + r) es) (omega arith)
+          ∙ take_all (m + r) (take m es ++ x.news) (omega arith);
+      rest =
+          ap (drop (m + r)) whole ∙ drop-append-le (m + r) (take m es ++ x.news) (drop (m + r) es) (omega arith)
+          ∙ ap (λ z. z ++ drop (m + r) es) (drop_all (m + r) (take m es ++ x.news) (omega arith));
+      left = t.left;
+    }
 
 -- where it is the same that has passed
 pub told_same : (x y : Passed) (es es' : List Event) (σ : List StationState) (n k r : ℕ) → x ≡ y → Told x es es' σ n k r → Told y es es' σ n k r

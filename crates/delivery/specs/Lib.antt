@@ -1,3 +1,2 @@
 pub mod Known
-pub mod Tests
 pub mod Telling

@@ -5,4 +5,4 @@
 
 pub mod ask;
 pub mod deliver;
-pub mod test;
+pub mod rules;

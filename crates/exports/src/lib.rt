@@ -20,7 +20,7 @@ pub extern "C" fn translator_check(book: &[u8], place: &mut u64) -> u32
         Ok(_) => 0,
         Err(refusal) => {
             *place = refusal.place as u64;
-            refusal.fault.number() as u32
+            u32::from(u8::from(refusal.fault))
         }
     }
 }

@@ -5,4 +5,3 @@
 
 pub mod automaton;
 pub mod model;
-pub mod row;

@@ -5,8 +5,6 @@
 ghost use Rattle.gearing.specs.Laws.{GearedMachinesAnswer};
 
 // A geared machine is sound, and answers by the machine below.
-pub fn geared_machines_answer() -> u8
+pub fn geared_machines_answer()
     ensures { GearedMachinesAnswer }
-{
-    0
-}
+{}

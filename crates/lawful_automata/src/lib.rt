@@ -5,8 +5,6 @@
 ghost use Rattle.lawful_automata.specs.Accepted.{AcceptedAutomataAreLawful};
 
 // An automaton book is accepted exactly if its structure is right and its tree is lawful.
-pub fn accepted_automata_are_lawful() -> u8
+pub fn accepted_automata_are_lawful()
     ensures { AcceptedAutomataAreLawful }
-{
-    0
-}
+{}

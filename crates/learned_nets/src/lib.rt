@@ -5,8 +5,6 @@
 ghost use Rattle.learned_nets.specs.Meant.{NetsAnswerAsMeant};
 
 // Over any sound machine, blanks for unknown stances change no answer, no state and no telling.
-pub fn nets_answer_as_meant() -> u8
+pub fn nets_answer_as_meant()
     ensures { NetsAnswerAsMeant }
-{
-    0
-}
+{}

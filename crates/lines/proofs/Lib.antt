@@ -1,4 +1,4 @@
 pub mod Digits
-pub mod Ahead
+pub mod Lengths
 pub mod Numbers
 pub mod Marks

@@ -1,13 +1,14 @@
 -- Numbers in decimal among other bytes: where one ends, and which one it is.
-use Rattle.std.proofs.Common.{◌≡◌, ℕ, ◌+◌, ◌^◌, ◌<◌, ◌≤◌, ◌⊎◌, List, [], ◌∷◌, ◌++◌, length, get_or, take, drop, Ok, Err, IsUtf8, decimal, Result, sym, refl, ap, ◌∙◌, subst, ⊎_elim, arith, MatchOption}
+use Rattle.std.proofs.Common.{◌≡◌, ℕ, ◌+◌, ◌^◌, ◌<◌, ◌≤◌, ◌⊎◌, List, [], ◌∷◌, ◌++◌, length, get_or, take, drop, Ok, Err, Some, None, IsUtf8, decimal, Option, Result, sym, refl, ap, ◌∙◌, subst, ⊎_elim, arith, append_assoc, append-nil, length-append, MatchOption}
 use Rattle.std.specs.Result.{result_ok, OkIff}
 use Rattle.std.specs.Str.Parse.{ParsesUnsigned, digits_value}
 use Rattle.std.specs.Int.{IsInRange}
 use Rattle.std.proofs.lemmas.Fmt.{decimal_digit, decimal_nonempty, decimal_injective, decimal-digits_value, digits_decimal, digits_value-decimal, first_decimal, IsAscii-from_digits}
-use Rattle.std.proofs.lemmas.List.{get_or_append_left, get_or-append-add, get_or-take, get_or-drop, length-take, take_at, drop_at, take-append-drop}
+use Rattle.std.proofs.lemmas.List.{get_or_append_left, get_or-append-add, take_at, drop_at}
 use Rattle.std.proofs.lemmas.Str.Parse.{IsNumeralModel, numerals_by_value, tells_by_index, parse_digits}
 use Rattle.std.proofs.lemmas.Bool.{cases_order, cases_lt}
 use Rattle.std.proofs.lemmas.Str.{IsUtf8-from_ascii}
+use Rattle.std.proofs.lemmas.Option.{none-some, same_Some}
 use Rattle.lines.specs.Lines.{ended}
 use Rattle.lines.specs.Numbers.{Ends, Wide, Are}
 
@@ -59,22 +60,10 @@ module _ (ds rest l : List ℕ) (all : AllDigits ds) (ends : Ends rest) (e : l �
 
 -- the first `count` bytes behind the space are digits, and no more of them
 module _ (bytes l : List ℕ) (space count : ℕ) (whole : bytes ≡ space ∷ l) (digits : (k : ℕ) → k < count → IsInRange 48 57 (get_or l k 0)) (stops : IsInRange 48 57 (get_or l count 0) → ⊥) where
-  pub taken_digits : AllDigits (take count l)
-  taken_digits k h = let less : k < count = omega (arith, length-take count l) in subst (IsInRange 48 57) (sym (get_or-take count l k 0 less)) (digits k less)
-
   pub no_number : ((n : ℕ) → n < 2 ^ 64 → take count l ≡ decimal n → ⊥) → (n : ℕ) (rest : List ℕ) → n < 2 ^ 64 → Ends rest → bytes ≡ 32 ∷ (decimal n ++ rest) → ⊥
   no_number none n rest fits ends e =
       let f : l ≡ decimal n ++ rest = cc in
       none n fits (front_is (decimal n) rest l (decimal_digits n fits) ends f count digits stops).0
-
-  pub next_is : (n : ℕ) (rest : List ℕ) → space ≡ 32 → (n < 2 ^ 64) × (take count l ≡ decimal n) → rest ≡ drop count l →
-      (n < 2 ^ 64) × Ends rest × (bytes ≡ 32 ∷ (decimal n ++ rest))
-  next_is n rest s (fits, e) r =
-      let zero : count + 0 ≡ count = omega arith in
-      let first : get_or rest 0 0 ≡ get_or l count 0 = ap (λ t. get_or t 0 0) r ∙ get_or-drop count l 0 0 ∙ ap (λ k. get_or l k 0) zero in
-      let all : take count l ++ drop count l ≡ l = take-append-drop count l in
-      let f : decimal n ++ rest ≡ l = cc in
-      (fits, λ h. stops (subst (IsInRange 48 57) first h), cc)
 
 -- after a number and what ends it nothing else can have been meant
 pub same_number : (m n : ℕ) (r s : List ℕ) → m < 2 ^ 64 → n < 2 ^ 64 → Ends r → Ends s → decimal m ++ r ≡ decimal n ++ s → (m ≡ n) × (r ≡ s)
@@ -118,11 +107,56 @@ same_ended (m ∷ ms) (n ∷ ns) p q =
     let h : ms ≡ ns = same_ended ms ns p.1 g.1 in
     cc
 
--- a list of one byte
-pub one_byte : (l : List ℕ) (x : ℕ) → length l ≡ 1 → get_or l 0 0 ≡ x → l ≡ x ∷ []
-one_byte [] x one e = absurd (omega arith)
-one_byte (y ∷ []) x one e = ap (λ z. z ∷ []) e
-one_byte (y ∷ (z ∷ l)) x one e = absurd (omega arith)
+-- the numbers ns were read from the bytes, and the rest is left
+pub record IsRead (bytes rest ns : List ℕ) : Type 0 where
+  pub back : (ms : List ℕ) → Are rest ms → Are bytes (ns ++ ms)
+  pub only : (ms : List ℕ) → length ns ≤ length ms → Are bytes ms → (r : List ℕ) × (ms ≡ ns ++ r) × Are rest r
+
+pub none_read : (bytes : List ℕ) → IsRead bytes bytes []
+none_read bytes = record { back = λ ms are. are; only = λ ms h are. (ms, refl, are) }
+
+module _ (bytes rest ns : List ℕ) (read : IsRead bytes rest ns) where
+  pub next_read : (behind : List ℕ) (m : ℕ) → (m < 2 ^ 64) × Ends behind × (rest ≡ 32 ∷ (decimal m ++ behind)) → IsRead bytes behind (ns ++ m ∷ [])
+  next_read behind m next =
+      record {
+        back = λ ms are. subst (Are bytes) (sym (append_assoc ns (m ∷ []) ms)) (read.back (m ∷ ms) (joined rest behind m next ms are));
+        only = λ ms h are. let o = read.only ms (omega (arith, h, length-append ns (m ∷ []))) are in go ms o.0 h o.1 o.2;
+      }
+    where
+      go : (ms r : List ℕ) → length (ns ++ m ∷ []) ≤ length ms → ms ≡ ns ++ r → Are rest r → (r : List ℕ) × (ms ≡ (ns ++ m ∷ []) ++ r) × Are behind r
+      go ms [] h e are = absurd (omega (arith, h, ap length e, length-append ns [], length-append ns (m ∷ [])))
+      go ms (n ∷ r) h e are =
+          let g = goes_on rest behind m next n r are in
+          (r, e ∙ ap (λ k. ns ++ k ∷ r) (sym g.0) ∙ sym (append_assoc ns (m ∷ []) r), g.1)
+
+  -- a line with more numbers has a next one
+  pub has_next : (ms : List ℕ) → length ns < length ms → Are bytes ms → ((n : ℕ) (r : List ℕ) → n < 2 ^ 64 → Ends r → rest ≡ 32 ∷ (decimal n ++ r) → ⊥) → ⊥
+  has_next ms h are none = let o = read.only ms (omega arith) are in go o.0 o.1 o.2
+    where
+      go : (r : List ℕ) → ms ≡ ns ++ r → Are rest r → ⊥
+      go [] e rests = omega (arith, h, ap length e, length-append ns [])
+      go (n ∷ r) e rests = none n (ended r) rests.0.0 (ends_ended r) rests.1
+
+  -- a line with no more numbers goes on with the line feed
+  pub has_end : (ms : List ℕ) → length ms ≡ length ns → Are bytes ms → rest ≡ 10 ∷ []
+  has_end ms h are = let o = read.only ms (omega arith) are in go o.0 o.1 o.2
+    where
+      go : (r : List ℕ) → ms ≡ ns ++ r → Are rest r → rest ≡ 10 ∷ []
+      go [] e rests = rests.1
+      go (n ∷ r) e rests = absurd (omega (arith, h, ap length e, length-append ns (n ∷ r)))
+
+  pub all_read : rest ≡ 10 ∷ [] → Are bytes ns
+  all_read e = subst (Are bytes) (append-nil ns) (read.back [] (tt, e))
 
 pub same_numbers : (l ms ns : List ℕ) → Are l ms → Are l ns → ms ≡ ns
 same_numbers l ms ns p q = same_ended ms ns p.0 (q.0, sym p.1 ∙ q.1)
+
+-- a number in range is converted, and to itself
+module _ {E : Type 0} (P : Type 0) (v : ℕ) where
+  pub converts : (r : Result ℕ E) (o : Option ℕ) → OkIff r P v → o ≡ result_ok r → o ≡ None → P → ⊥
+  converts (Ok x) o made e none fits = none-some x (sym none ∙ e)
+  converts (Err x) o never e none fits = never fits
+
+  pub converted : (r : Result ℕ E) (o : Option ℕ) (x : ℕ) → OkIff r P v → o ≡ result_ok r → o ≡ Some x → x ≡ v
+  converted (Ok y) o x made e some = same_Some x y (sym some ∙ e) ∙ made.1
+  converted (Err y) o x never e some = absurd (none-some x (sym e ∙ some))

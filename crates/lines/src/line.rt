@@ -23,29 +23,10 @@ pub enum Line {
     Telling(Telling),
 }
 
+// Stays: a public call, whose contract gives the same by an Option.
 // The fault that has the number.
 pub fn fault_from_number(number: u8) -> Option<Fault>
     ensures { MatchOption result ((f : Faults) → fault_number f ≢ number) (λ f. fault_number f ≡ number) }
 {
-    match number {
-        1 => Some(Fault::Length),
-        2 => Some(Fault::Head),
-        3 => Some(Fault::Layout),
-        4 => Some(Fault::Links),
-        5 => Some(Fault::Goals),
-        6 => Some(Fault::Limits),
-        7 => Some(Fault::Scale),
-        8 => Some(Fault::EmptyWindow),
-        9 => Some(Fault::SharedMoment),
-        10 => Some(Fault::Paths),
-        11 => Some(Fault::Location),
-        12 => Some(Fault::Room),
-        13 => Some(Fault::Parts),
-        14 => Some(Fault::Busy),
-        15 => Some(Fault::Due),
-        16 => Some(Fault::Lifetime),
-        17 => Some(Fault::Total),
-        18 => Some(Fault::Idle),
-        _ => None,
-    }
+    Fault::try_from(number).ok()
 }

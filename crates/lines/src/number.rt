@@ -11,12 +11,10 @@ fn digit_count(bytes: &[u8]) -> usize
     ensures digits { (k : ℕ) → k < result → IsInRange 48 57 (slice_index bytes.now k) }
     ensures stops { IsInRange 48 57 (slice_index bytes.now result) → ⊥ }
 {
-    for (i, byte) in bytes.iter().enumerate() {
-        if !byte.is_ascii_digit() {
-            return i;
-        }
-    }
-    bytes.len()
+    bytes
+        .iter()
+        .position(|byte| !byte.is_ascii_digit())
+        .unwrap_or(bytes.len())
 }
 
 // The number that digits write, without a zero in front of it.
@@ -30,7 +28,7 @@ fn number(digits: &[u8]) -> Option<u64>
     let Ok(text) = from_utf8(digits) else {
         return None;
     };
-    text.parse::<u64>().ok()
+    text.parse().ok()
 }
 
 // The number behind a space, and what stands behind the number.
@@ -41,7 +39,7 @@ pub fn next_number(bytes: &[u8]) -> Option<(u64, &[u8])>
     if *space != b' ' {
         return None;
     }
-    let count = digit_count(rest);
-    let n = number(&rest[..count])?;
-    Some((n, &rest[count..]))
+    let (digits, behind) = rest.split_at(digit_count(rest));
+    let n = number(digits)?;
+    Some((n, behind))
 }

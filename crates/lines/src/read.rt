@@ -1,5 +1,5 @@
 // Lines from bytes.
-ghost use Rattle.std.specs.Prelude.{ℕ, [], ◌∷◌, MatchOption};
+ghost use Rattle.std.specs.Prelude.{◌≡◌, ℕ, List, ◌∷◌, length, MatchOption};
 ghost use Rattle.book.specs.Events.{event_letter};
 ghost use Rattle.lines.specs.Lines.{Reads, LinesDiffer};
 ghost use Rattle.lines.specs.Numbers.{Are};
@@ -7,50 +7,35 @@ ghost use Rattle.lines.specs.Numbers.{Are};
 use super::line::{Line, Telling, fault_from_number};
 use super::number::next_number;
 use book::event::{Event, EventKind};
-use book::refusal::Refusal;
 
-// A number behind a space, and the line feed.
-fn one_number(bytes: &[u8]) -> Option<u64>
-    ensures { MatchOption result ((a : ℕ) → Are bytes.now (a ∷ []) → ⊥) (λ n. Are bytes.now (n ∷ [])) }
+// Numbers, each behind a space, and the line feed.
+fn numbers<const N: usize>(bytes: &[u8]) -> Option<[u64; N]>
+    ensures { MatchOption result ((ns : List ℕ) → length ns ≡ N → Are bytes.now ns → ⊥) (λ ns. Are bytes.now ns) }
 {
-    let (number, rest) = next_number(bytes)?;
-    if rest.len() == 1 && rest[0] == b'\n' {
-        return Some(number);
+    let mut numbers = [0; N];
+    let mut rest = bytes;
+    for number in numbers.iter_mut() {
+        let (read, behind) = next_number(rest)?;
+        *number = read;
+        rest = behind;
     }
-    None
-}
-
-// The same of two numbers.
-fn two_numbers(bytes: &[u8]) -> Option<(u64, u64)>
-    ensures { MatchOption result ((a b : ℕ) → Are bytes.now (a ∷ b ∷ []) → ⊥) (λ p. Are bytes.now (p.0 ∷ p.1 ∷ [])) }
-{
-    let (first, rest) = next_number(bytes)?;
-    let second = one_number(rest)?;
-    Some((first, second))
-}
-
-// The same of three numbers.
-fn three_numbers(bytes: &[u8]) -> Option<(u64, u64, u64)>
-    ensures { MatchOption result ((a b c : ℕ) → Are bytes.now (a ∷ b ∷ c ∷ []) → ⊥) (λ p. Are bytes.now (p.0 ∷ p.1 ∷ p.2 ∷ [])) }
-{
-    let (first, rest) = next_number(bytes)?;
-    let (second, third) = two_numbers(rest)?;
-    Some((first, second, third))
+    if rest == b"\n".as_slice() {
+        Some(numbers)
+    } else {
+        None
+    }
 }
 
 // What is behind an event's letter.
 fn read_event(kind: EventKind, bytes: &[u8]) -> Option<Line>
     ensures { Reads (event_letter kind ∷ bytes.now) result }
 {
-    let (station, port, value) = three_numbers(bytes)?;
-    if station > 255 || port > 255 || value > 65535 {
-        return None;
-    }
+    let [station, port, value] = numbers::<3>(bytes)?;
     Some(Line::Event(Event {
         kind,
-        station: station as u8,
-        port: port as u8,
-        value: value as u16,
+        station: u8::try_from(station).ok()?,
+        port: u8::try_from(port).ok()?,
+        value: u16::try_from(value).ok()?,
     }))
 }
 
@@ -58,28 +43,19 @@ fn read_event(kind: EventKind, bytes: &[u8]) -> Option<Line>
 fn read_refusal(bytes: &[u8]) -> Option<Line>
     ensures { Reads (45 ∷ bytes.now) result }
 {
-    let (number, place) = two_numbers(bytes)?;
-    if number > 255 {
-        return None;
-    }
-    let fault = fault_from_number(number as u8)?;
-    Some(Line::Refusal(Refusal {
-        fault,
-        place: place as usize,
-    }))
+    let [number, place] = numbers::<2>(bytes)?;
+    let fault = fault_from_number(u8::try_from(number).ok()?)?;
+    Some(Line::Refusal(fault.at(place as usize)))
 }
 
 // What is behind the mark of a telling.
 fn read_telling(bytes: &[u8]) -> Option<Line>
     ensures { Reads (61 ∷ bytes.now) result }
 {
-    let (phase, sent, elapsed) = three_numbers(bytes)?;
-    if phase > 65535 || sent > 255 {
-        return None;
-    }
+    let [phase, sent, elapsed] = numbers::<3>(bytes)?;
     Some(Line::Telling(Telling {
-        phase: phase as u16,
-        sent: sent as u8,
+        phase: u16::try_from(phase).ok()?,
+        sent: u8::try_from(sent).ok()?,
         elapsed,
     }))
 }
@@ -92,13 +68,11 @@ pub fn read_line(bytes: &[u8]) -> Option<Line>
     match *mark {
         b'-' => read_refusal(rest),
         b'=' => read_telling(rest),
-        letter => read_event(EventKind::from_letter(char::from(letter))?, rest),
+        letter => read_event(EventKind::try_from(char::from(letter)).ok()?, rest),
     }
 }
 
 // No two lines have the same bytes.
-pub fn lines_differ() -> u8
+pub fn lines_differ()
     ensures { LinesDiffer }
-{
-    0
-}
+{}

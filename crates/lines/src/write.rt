@@ -1,6 +1,5 @@
 // Lines into a lent buffer.
 ghost use Rattle.std.specs.Prelude.{◌≡◌, ◌≤◌, length};
-ghost use Rattle.lines.specs.Drafts.{text_of};
 ghost use Rattle.lines.specs.Lines.{marked, event_line, refusal_line, telling_line, line_bytes, write_answer, write_leaves};
 
 use super::draft::Draft;
@@ -10,10 +9,8 @@ use book::refusal::{Fault, Refusal};
 
 // A mark, numbers with a space before each, and a line feed.
 fn draft_of(mark: u8, numbers: &[u64]) -> Draft
-    requires room { length (marked mark numbers.now) ≤ 33 }
-    ensures text { text_of result ≡ marked mark numbers.now }
-    ensures used { result.used ≡ length (marked mark numbers.now) }
-    ensures room { result.used ≤ 33 }
+    requires { length (marked mark numbers.now) ≤ 33 }
+    ensures { result ≡ marked mark numbers.now }
 {
     let mut draft = Draft::new();
     draft.push(mark);
@@ -26,29 +23,23 @@ fn draft_of(mark: u8, numbers: &[u64]) -> Draft
 }
 
 fn draft_event(event: Event) -> Draft
-    ensures text { text_of result ≡ event_line event }
-    ensures used { result.used ≡ length (event_line event) }
-    ensures room { result.used ≤ 33 }
+    ensures { result ≡ event_line event }
 {
     let station = u64::from(event.station);
     let port = u64::from(event.port);
     let value = u64::from(event.value);
-    draft_of(event.kind.letter() as u8, &[station, port, value])
+    draft_of(char::from(event.kind) as u8, &[station, port, value])
 }
 
 fn draft_refusal(refusal: Refusal) -> Draft
-    ensures text { text_of result ≡ refusal_line refusal }
-    ensures used { result.used ≡ length (refusal_line refusal) }
-    ensures room { result.used ≤ 33 }
+    ensures { result ≡ refusal_line refusal }
 {
-    let number = u64::from(refusal.fault.number());
+    let number = u64::from(u8::from(refusal.fault));
     draft_of(b'-', &[number, refusal.place as u64])
 }
 
 fn draft_telling(telling: Telling) -> Draft
-    ensures text { text_of result ≡ telling_line telling }
-    ensures used { result.used ≡ length (telling_line telling) }
-    ensures room { result.used ≤ 33 }
+    ensures { result ≡ telling_line telling }
 {
     let phase = u64::from(telling.phase);
     let sent = u64::from(telling.sent);
@@ -56,9 +47,7 @@ fn draft_telling(telling: Telling) -> Draft
 }
 
 fn draft_line(line: Line) -> Draft
-    ensures text { text_of result ≡ line_bytes line }
-    ensures used { result.used ≡ length (line_bytes line) }
-    ensures room { result.used ≤ 33 }
+    ensures { result ≡ line_bytes line }
 {
     match line {
         Line::Event(event) => draft_event(event),
@@ -74,12 +63,10 @@ pub fn write_line(line: Line, buffer: &mut [u8]) -> Result<usize, Refusal>
     ensures leaves { buffer.new ≡ write_leaves line buffer.old }
 {
     let draft = draft_line(line);
-    if buffer.len() < draft.used {
-        return Err(Refusal {
-            fault: Fault::Room,
-            place: 0,
-        });
+    let text = draft.as_bytes();
+    if buffer.len() < text.len() {
+        return Err(Fault::Room.at(0));
     }
-    buffer[..draft.used].copy_from_slice(&draft.bytes[..draft.used]);
-    Ok(draft.used)
+    buffer[..text.len()].copy_from_slice(text);
+    Ok(text.len())
 }

@@ -3,6 +3,7 @@
 
 #![tactic(auto)]
 
+pub mod chain;
 pub mod link;
 pub mod reach;
 pub mod walk;

@@ -48,26 +48,29 @@ pub trait Linked {
     }
 }
 
+// Stays: each kind of book has its own table of index fields, as the format gives it; a common part
+// with two exceptions would be longer than the two tables.
 impl Linked for ModelBody {
     ghost links = { model_links };
 
     fn links(row: &[u8]) -> [Link; 3] {
         let next = Self::next(row);
-        match byte_at(row, 0) {
-            1 => [
+        match Kind::try_from(byte_at(row, 0)) {
+            Ok(Kind::Station) => [
                 Link::new(next, Kind::Station),
                 Link::new(two_at(row, 4), Kind::Phase),
                 Link::NONE,
             ],
-            2 => [
+            Ok(Kind::Phase) => [
                 Link::new(next, Kind::Phase),
                 Link::new(two_at(row, 4), Kind::Edge),
                 Link::new(two_at(row, 8), Kind::Word),
             ],
-            3 => [Link::new(next, Kind::Edge), Link::NONE, Link::NONE],
-            4 => [Link::new(next, Kind::Word), Link::NONE, Link::NONE],
-            5 => [Link::new(next, Kind::Path), Link::NONE, Link::NONE],
-            _ => [Link::NONE; 3],
+            Ok(Kind::Edge) => [Link::new(next, Kind::Edge), Link::NONE, Link::NONE],
+            Ok(Kind::Word) => [Link::new(next, Kind::Word), Link::NONE, Link::NONE],
+            Ok(Kind::Path) => [Link::new(next, Kind::Path), Link::NONE, Link::NONE],
+            // Stays: a row of the table.
+            Err(_) => [Link::NONE; 3],
         }
     }
 }
@@ -77,20 +80,20 @@ impl Linked for AutomatonBody {
 
     fn links(row: &[u8]) -> [Link; 3] {
         let next = Self::next(row);
-        match byte_at(row, 0) {
-            1 => [
+        match Kind::try_from(byte_at(row, 0)) {
+            Ok(Kind::Station) => [
                 Link::new(next, Kind::Station),
                 Link::new(two_at(row, 4), Kind::Phase),
                 Link::NONE,
             ],
-            2 => [
+            Ok(Kind::Phase) => [
                 Link::new(next, Kind::Phase),
                 Link::new(two_at(row, 4), Kind::Edge),
                 Link::NONE,
             ],
-            3 => [Link::new(next, Kind::Edge), Link::NONE, Link::NONE],
-            5 => [Link::new(next, Kind::Path), Link::NONE, Link::NONE],
-            _ => [Link::NONE; 3],
+            Ok(Kind::Edge) => [Link::new(next, Kind::Edge), Link::NONE, Link::NONE],
+            Ok(Kind::Path) => [Link::new(next, Kind::Path), Link::NONE, Link::NONE],
+            Ok(Kind::Word) | Err(_) => [Link::NONE; 3],
         }
     }
 }

@@ -9,6 +9,11 @@ ghost use Rattle.links.specs.Walks.{filled};
 use super::link::{Link, Linked, links_of};
 use book::refusal::{Fault, Refusal};
 
+// Stays: four parameters that travel together. As fields of a struct with these two as its methods,
+// which prove, each method has three clauses more: that both lent lists and the number of records
+// stay the same ones. In `reach` the goals `returns-clause-slots` and `returns-clause-flags`, what
+// the lists hold when the struct ends, stayed open.
+
 // Record x behind the first `count` slots of the list, unless x is 0, past n, or marked already;
 // answers the new count.
 fn meet(list: &mut [u16], marks: &mut [bool], count: usize, n: usize, x: u16) -> usize
@@ -24,7 +29,7 @@ fn meet(list: &mut [u16], marks: &mut [bool], count: usize, n: usize, x: u16) ->
     count + 1
 }
 
-// The same of each record that the index fields name.
+// The same of each record that the index fields name. Stays: as at `meet`.
 fn meet_all(list: &mut [u16], marks: &mut [bool], start: usize, n: usize, links: &[Link]) -> usize
     requires { Queue n start list.old marks.old }
     ensures { Grown n start list.old marks.old (met_all n (take start list.old) links.now) result list.new marks.new }
@@ -56,14 +61,13 @@ pub fn reach<R: Linked>(book: &[u8], list: &mut [u16], marks: &mut [bool]) -> Re
 {
     let records = (book.len() / 32).saturating_sub(1);
     if list.len() <= records || marks.len() <= records {
-        return Err(Refusal {
-            fault: Fault::Room,
-            place: 0,
-        });
+        return Err(Fault::Room.at(0));
     }
     unmark(marks, records + 1);
     marks[0] = true;
     list[0] = 0;
+    // Stays: a queue in lent slots, since there is no heap. It grows behind while its front is read,
+    // and so no iterator over the list can run it.
     let mut count = 1;
     let mut seen = 0;
     while seen < count {
@@ -75,8 +79,6 @@ pub fn reach<R: Linked>(book: &[u8], list: &mut [u16], marks: &mut [bool]) -> Re
 }
 
 // What is reached is the least set of records that has the head and that is closed under naming.
-pub fn reach_is_least() -> u8
+pub fn reach_is_least()
     ensures { ReachIsLeast }
-{
-    0
-}
+{}

@@ -3,8 +3,7 @@ use Rattle.std.proofs.Common.{◌≡◌, ℕ, zero, suc, ◌-◌, ◌*◌, ◌/�
 use Rattle.std.specs.Bool.{then_some}
 use Rattle.std.specs.Option.{option_map}
 use Rattle.std.proofs.ByRecursion.{All-get_or}
-use Rattle.std.proofs.lemmas.List.{get_or_past}
-use Rattle.std.proofs.lemmas.Bool.{ltb-true, ltb-false, lt-ltb, lt-leb, and_right, and_parts}
+use Rattle.std.proofs.lemmas.Bool.{ltb-true, lt-ltb, lt-leb, and_right, and_parts}
 use Rattle.semantics.specs.Machine.{Stance, StationMeaning, Meaning, SoundStation, Sound, meaning_at, blank_meaning, gear}
 use Rattle.semantics.specs.Questions.{ask_station, ask_stance, ask_hearing, has_stance, parts_fit}
 use Rattle.semantics.proofs.Options.{some_not_none, inner}
@@ -168,18 +167,3 @@ module _ (ms : Meaning) (sound : Sound ms) (fs : List ℕ) (k u f : ℕ) (e : So
           let g : 1000000 * m.scale * f ≡ 1000000 * (u * f) = ap (λ y. 1000000 * y * f) (sym station.scale_is) ∙ mul_assoc 1000000 u f in
           let w : u * f ≤ 1000000 = product_fits in
           omega arith
-
--- the scale of a station, or the blank's, is that of its meaning
-pub scale_or_blank : (ms : Meaning) (i k : ℕ) → k ≡ suc i → (u : ℕ) → Some u ≡ ask_station ms k (λ m. m.scale) → u ≡ (meaning_at ms i).scale
-scale_or_blank ms i k z u e = go (ltb i (length ms)) (e ∙ ap (λ j. ask_station ms j (λ m. m.scale)) z)
-  where
-    go : (b : Bool) → Some u ≡ then_some b (meaning_at ms i).scale → u ≡ (meaning_at ms i).scale
-    go true e = inner e
-    go false e = absurd (some_not_none u e)
-
-pub blank_scale : (ms : Meaning) (i k : ℕ) → k ≡ suc i → None ≡ ask_station ms k (λ m. m.scale) → 1 ≡ (meaning_at ms i).scale
-blank_scale ms i k z e = go (ltb i (length ms)) refl (e ∙ ap (λ j. ask_station ms j (λ m. m.scale)) z)
-  where
-    go : (b : Bool) → ltb i (length ms) ≡ b → None ≡ then_some b (meaning_at ms i).scale → 1 ≡ (meaning_at ms i).scale
-    go true h e = absurd (some_not_none _ (sym e))
-    go false h e = ap (λ m. m.scale) (sym (get_or_past ms i blank_meaning (ltb-false _ _ h)))

@@ -1,30 +1,20 @@
--- A search from place to place for the lowest one that passes: what is left, from here, gives the whole answer.
-use Rattle.std.proofs.Common.{◌≡◌, ℕ, suc, ◌+◌, ◌-◌, ◌<◌, ◌≤◌, Bool, true, false, cond, Some, None, Option, sym, ap, ◌∙◌, ap₂, arith}
-use Rattle.semantics.specs.Calls.{lowest, number}
+-- A search over the places, by `find`, gives the lowest one that passes.
+use Rattle.std.proofs.Common.{◌≡◌, ℕ, ◌<◌, ◌≤◌, Bool, true, false, Some, None, Option, sym, ap, arith, Bor, MatchOption}
+use denote.Param.Members.{Mut}
+use Rattle.std.specs.Fn.{CalledAt}
+use Rattle.std.specs.Iterator.{FindsItem}
+use Rattle.std.specs.declared.ops.Range.{Range}
+use Rattle.std.proofs.iter.Yields.{nat_range_steps}
+use Rattle.std.proofs.lemmas.Iterator.{first_from_Range}
+use Rattle.semantics.specs.Calls.{lowest}
+use Rattle.semantics.proofs.Lowest.{found, none_found}
 
-module _ (p : ℕ → Bool) (n i : ℕ) (answer : Option ℕ) where
-  turn : (b : Bool) → i < n → b ≡ p i → lowest p i (n - i) ≡ cond b (Some i) (lowest p (i + 1) (n - (i + 1)))
-  turn b below is =
-      let one_less : n - i ≡ suc (n - (i + 1)) = omega arith in
-      let next : suc i ≡ i + 1 = omega arith in
-      ap (lowest p i) one_less ∙ ap₂ (λ t j. cond t (Some i) (lowest p j (n - (i + 1)))) (sym is) next
-
-  -- the answer as a place
-  pub place_found : i < n → true ≡ p i → lowest p i (n - i) ≡ answer → Some i ≡ answer
-  place_found below is rest = sym (turn true below is) ∙ rest
-
-  pub place_more : i < n → false ≡ p i → lowest p i (n - i) ≡ answer → lowest p (i + 1) (n - (i + 1)) ≡ answer
-  place_more below is rest = sym (turn false below is) ∙ rest
-
-  pub place_none : n ≤ i → lowest p i (n - i) ≡ answer → None ≡ answer
-  place_none past rest = let none_left : 0 ≡ n - i = omega arith in ap (lowest p i) none_left ∙ rest
-
-  -- the answer as a station's number
-  pub lowest_found : i < n → true ≡ p i → number (lowest p i (n - i)) ≡ answer → Some (i + 1) ≡ answer
-  lowest_found below is rest = let next : i + 1 ≡ suc i = omega arith in ap Some next ∙ sym (ap number (turn true below is)) ∙ rest
-
-  pub lowest_more : i < n → false ≡ p i → number (lowest p i (n - i)) ≡ answer → number (lowest p (i + 1) (n - (i + 1))) ≡ answer
-  lowest_more below is rest = sym (ap number (turn false below is)) ∙ rest
-
-  pub lowest_none : n ≤ i → number (lowest p i (n - i)) ≡ answer → None ≡ answer
-  lowest_none past rest = let none_left : 0 ≡ n - i = omega arith in ap (λ k. number (lowest p i k)) none_left ∙ rest
+pub lowest_from_find : {F : Type 0} {g : Mut F (Bor ℕ × Unit {0}) Bool} (p : ℕ → Bool) (n : ℕ) (s u : Range ℕ) (f : F) (r : Option ℕ) → s ≡ record { start = 0; end = n } →
+    FindsItem nat_range_steps g s f r u → ((x : ℕ) (b : Bool) (q : F) → CalledAt g f x b q → (q ≡ f) × (b ≡ p x)) → r ≡ lowest p 0 n
+lowest_from_find p n s u f r e ran is =
+    go r (first_from_Range s u f r (λ x. p x ≡ true) (λ x. p x ≡ false) ran (λ x q h. sym (is x true q h).1) (λ x q h. ((is x false q h).0, sym (is x false q h).1)))
+  where
+    go : (o : Option ℕ) → MatchOption o ((k : ℕ) → s.start ≤ k → k < s.end → p k ≡ false) (λ i. (s.start ≤ i) × (i < s.end) × (p i ≡ true) × ((k : ℕ) → s.start ≤ k → k < i → p k ≡ false)) → o ≡ lowest p 0 n
+    go None h = sym (none_found p 0 n (λ j a b. h j (omega (arith, ap (λ (s : Range ℕ). s.start) e)) (omega (arith, ap (λ (s : Range ℕ). s.end) e))))
+    go (Some i) h =
+        sym (found p 0 n i (omega arith) (omega (arith, h.1, ap (λ (s : Range ℕ). s.end) e)) h.2 (λ j a b. h.3 j (omega (arith, ap (λ (s : Range ℕ). s.start) e)) b))

@@ -9,11 +9,13 @@ ghost use Rattle.machine.specs.Stances.{finer};
 
 use super::Machine;
 use super::stance::StanceInfo;
+use book::record::Word;
 use book::refusal::{Fault, Refusal};
 
 #[derive(Drop)]
 pub struct Gear<M: Machine> {
     below: M,
+    // Stays: gearing uses no heap, and a machine has at most 16 stations.
     factors: [u32; 16],
 }
 
@@ -49,16 +51,9 @@ fn in_finer_ticks(below: StanceInfo, factor: u32) -> StanceInfo
     requires { IfSome below.lifetime (λ l. l * factor < 2 ^ 64) }
     ensures { result ≡ finer factor below }
 {
-    let lifetime = match below.lifetime {
-        Some(ticks) => Some(ticks * factor as u64),
-        None => None,
-    };
     StanceInfo {
-        phase: below.phase,
-        sent: below.sent,
-        busy: below.busy,
-        lifetime,
-        next_move: below.next_move,
+        lifetime: below.lifetime.map(|ticks| ticks * factor as u64),
+        ..below
     }
 }
 
@@ -91,8 +86,7 @@ impl<M: Machine> Machine for Gear<M> {
         &self,
         station: usize,
         stance: u32,
-        port: u8,
-        value: u8,
+        word: Word,
         elapsed: u64,
         per_tick: u64,
     ) -> Option<Option<u32>> {
@@ -101,14 +95,8 @@ impl<M: Machine> Machine for Gear<M> {
             return None;
         }
         let factor = factor_in_use(&self.factors, station, scale);
-        self.below.hearing(
-            station,
-            stance,
-            port,
-            value,
-            elapsed,
-            per_tick * factor as u64,
-        )
+        self.below
+            .hearing(station, stance, word, elapsed, per_tick * factor as u64)
     }
 }
 
@@ -117,39 +105,28 @@ fn misfit_at<M: Machine>(below: &M, factors: &[u32; 16], place: usize) -> bool
     requires { place < 16 }
     ensures { result ≡ misfit_at (M.Machine.meaning below.now) factors.now place }
 {
-    let scale = match below.scale(place + 1) {
-        Some(scale) => scale,
-        None => 1,
-    };
-    does_not_fit(scale, factors[place])
+    does_not_fit(below.scale(place + 1).unwrap_or(1), factors[place])
 }
 
 // The lowest station that cannot.
 fn lowest_misfit<M: Machine>(below: &M, factors: &[u32; 16]) -> Option<usize>
     ensures { result ≡ lowest_misfit (M.Machine.meaning below.now) factors.now }
 {
-    let stations = below.stations();
-    for i in 0..stations {
-        if misfit_at(below, factors, i) {
-            return Some(i + 1);
-        }
-    }
-    None
+    let place = (0..below.stations()).find(|place| misfit_at(below, factors, *place))?;
+    Some(place + 1)
 }
 
 impl<M: Machine + Drop> Gear<M> {
     // Gears each station by its factor, and refuses at the lowest station whose factor does not fit.
     // Of a machine so made, every factor in use is the wanted one.
+    // Stays: the table of factors, as the field.
     pub fn new(below: M, factors: [u32; 16]) -> Result<Gear<M>, Refusal>
         ensures value { MatchResult result (λ g. (lowest_misfit (M.Machine.meaning below) factors ≡ None) × (g.below ≡ below) × (g.factors ≡ factors)) (λ e. (lowest_misfit (M.Machine.meaning below) factors ≡ Some e.place) × (e ≡ refused Scale e.place)) }
         ensures as_asked { IfOk result (λ g. geared_by (M.Machine.meaning g.below) g.factors ≡ as_wanted (M.Machine.meaning below) factors) }
     {
-        match lowest_misfit(&below, &factors) {
-            Some(place) => Err(Refusal {
-                fault: Fault::Scale,
-                place,
-            }),
-            None => Ok(Gear { below, factors }),
+        if let Some(place) = lowest_misfit(&below, &factors) {
+            return Err(Fault::Scale.at(place));
         }
+        Ok(Gear { below, factors })
     }
 }

@@ -8,6 +8,7 @@ ghost use Rattle.semantics.specs.Machine.{Meaning, Sound};
 ghost use Rattle.semantics.specs.Questions.{ask_station, ask_stance, ask_hearing};
 ghost use Rattle.machine.specs.Stances.{told};
 
+use book::record::Word;
 use stance::StanceInfo;
 
 pub mod gear;
@@ -39,16 +40,15 @@ pub trait Machine {
     fn stance(&self, station: usize, stance: u32) -> Option<StanceInfo>
         ensures { result ≡ ask_stance (meaning self.now) station stance told };
 
-    // What a stance hears: for port, value, and elapsed time in parts of a tick, the following
-    // stance or nothing.
+    // What a stance hears: for a word, and elapsed time in parts of a tick, the following stance or
+    // nothing.
     fn hearing(
         &self,
         station: usize,
         stance: u32,
-        port: u8,
-        value: u8,
+        word: Word,
         elapsed: u64,
         per_tick: u64,
     ) -> Option<Option<u32>>
-        ensures { result ≡ ask_hearing (meaning self.now) station stance port value elapsed per_tick };
+        ensures { result ≡ ask_hearing (meaning self.now) station stance word.port word.value elapsed per_tick };
 }

@@ -1,3 +1,2 @@
-pub mod Stations
 pub mod NetScale
 pub mod Openings

@@ -112,3 +112,14 @@ module _ {M : Type 0} (meaning : M → Meaning) (machine : M) (sound : Sound (me
       (no_misfit ms sound (limit_kept (net_scale ms) scale is).1, value.1, asked ∙ geared_as_wanted ms fs to_net_scale)
   gear_made (Err e) value asked =
       absurd (some_not_none e.place (sym value.0 ∙ all_fit ms sound (limit_kept (net_scale ms) scale is).1 fs to_net_scale))
+
+-- What is answered where the net scale is over the limit.
+pub refused_made : {M : Type 0} (meaning : M → Meaning) (machine : M) → Sound (meaning machine) → 1000000 < net_scale (meaning machine) → (r : Result (Gear M) Refusal) →
+    r ≡ Err (refused Scale 1) →
+    MatchResult r (λ g. (first_bad (misfit (net_scale (meaning machine))) 1 (meaning machine) ≡ None) × (g.below ≡ machine) × (geared_by (meaning g.below) g.factors ≡ geared (meaning machine)))
+    (λ e. (first_bad (misfit (net_scale (meaning machine))) 1 (meaning machine) ≡ Some e.place) × (e ≡ refused Scale e.place))
+refused_made meaning machine sound over (Ok g) e = absurd (cc)
+refused_made meaning machine sound over (Err r) e =
+    let is : r ≡ refused Scale 1 = cc in
+    let place = ap (λ (x : Refusal). x.place) is in
+    (first_misfit (meaning machine) sound over ∙ ap Some (sym place), is ∙ ap (refused Scale) (sym place))

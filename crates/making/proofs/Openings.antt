@@ -1,8 +1,9 @@
 -- The states that stations open in, and the events that tell of it.
-use Rattle.std.proofs.Common.{◌≡◌, ℕ, zero, suc, ◌+◌, ◌-◌, ◌<◌, ◌≤◌, cond, List, [], ◌∷◌, ◌++◌, length, get_or, take, drop, set, replicate, sym, refl, ap, ◌∙◌, ap₂, arith, take-append-drop}
-use lib.ListN.{length-map}
+use Rattle.std.proofs.Common.{◌≡◌, ℕ, zero, suc, ◌+◌, ◌-◌, ◌<◌, ◌≤◌, cond, List, [], ◌∷◌, ◌++◌, length, get_or, take, drop, set, replicate, sym, refl, ap, ◌∙◌, ap₂, arith, take-append-drop, length-append, ◌⊎◌, inl, inr}
+use lib.ListN.{length-map, length-replicate}
+use Rattle.std.proofs.lemmas.Bool.{cases_lt}
 use Rattle.std.proofs.ByRecursion.{All-get_or}
-use Rattle.std.proofs.lemmas.List.{take_more, take_more_set, take_all, drop-set-lt, get_or-map, length-take-le}
+use Rattle.std.proofs.lemmas.List.{take_more, take_more_set, take_all, drop-set-lt, get_or-map, get_or_append_left, get_or-append_right, get_or-replicate, get_or_past, same_lists}
 use Rattle.book.specs.declared.event.Event.{Event}
 use Rattle.semantics.specs.declared.state.StationState.{StationState}
 use Rattle.semantics.specs.Events.{event, Created}
@@ -16,32 +17,25 @@ use Rattle.delivery.proofs.Learned.{learned_at}
 use Rattle.delivery.proofs.Telling.{drop_on}
 use Rattle.making.specs.Opening.{opened, opened_table}
 
--- what stands after a front is written
-set_after : {X : Type 0} (xs : List X) (y x : X) (ys : List X) (n : ℕ) → length xs ≡ n → set (xs ++ y ∷ ys) n x ≡ (xs ++ x ∷ []) ++ ys
-set_after [] y x ys zero e = refl
-set_after [] y x ys (suc n) e = absurd (omega arith)
-set_after (a ∷ xs) y x ys zero e = absurd (omega arith)
-set_after (a ∷ xs) y x ys (suc n) e = ap (λ l. a ∷ l) (set_after xs y x ys n (omega arith))
+-- what stands at a place of the table
+opened_at : (ms : Meaning) (k : ℕ) (d : StationState) → length ms ≤ 16 → k < 16 → get_or (opened_table ms) k d ≡ in_stance (meaning_at ms k).opening 0
+opened_at ms k d few l = go (cases_lt k (length ms))
+  where
+    go : (k < length ms) ⊎ (length ms ≤ k) → get_or (opened_table ms) k d ≡ in_stance (meaning_at ms k).opening 0
+    go (inl h) =
+        let long = length-map ms (λ m. in_stance m.opening 0) in
+        get_or_append_left (opened ms) (replicate (16 - length ms) (in_stance 0 0)) d k (omega arith) ∙ get_or-map (λ m. in_stance m.opening 0) ms k blank_meaning d h
+    go (inr h) =
+        get_or-append_right (opened ms) (replicate (16 - length ms) (in_stance 0 0)) (length ms) k d (length-map ms (λ m. in_stance m.opening 0)) h
+        ∙ get_or-replicate (16 - length ms) (k - length ms) (in_stance 0 0) d (omega arith)
+        ∙ ap (λ m. in_stance m.opening 0) (sym (get_or_past ms k blank_meaning h))
 
--- the table with the stations before i opened
-abbrev pub opened_to : Meaning → ℕ → List StationState
-opened_to ms i = take i (opened ms) ++ replicate (16 - i) (in_stance 0 0)
-
-module _ (ms : Meaning) (few : length ms ≤ 16) (i : ℕ) where
-  pub opened_more : (t : List StationState) (s : ℕ) → i < length ms → t ≡ opened_to ms i → s ≡ (meaning_at ms i).opening → set t i (in_stance s 0) ≡ opened_to ms (i + 1)
-  opened_more t s l e is =
-      let long = length-map ms (λ m. in_stance m.opening 0) in
-      let one_less : 16 - i ≡ suc (16 - (i + 1)) = omega arith in
-      let at : get_or (opened ms) i (in_stance 0 0) ≡ in_stance (meaning_at ms i).opening 0 = get_or-map (λ m. in_stance m.opening 0) ms i blank_meaning (in_stance 0 0) l in
-      ap (λ t. set t i (in_stance s 0)) (e ∙ ap (λ k. take i (opened ms) ++ replicate k (in_stance 0 0)) one_less)
-      ∙ set_after (take i (opened ms)) (in_stance 0 0) (in_stance s 0) (replicate (16 - (i + 1)) (in_stance 0 0)) i (length-take-le i (opened ms) (omega arith))
-      ∙ ap (λ x. (take i (opened ms) ++ x ∷ []) ++ replicate (16 - (i + 1)) (in_stance 0 0)) (ap (λ s. in_stance s 0) is ∙ sym at)
-      ∙ ap (λ xs. xs ++ replicate (16 - (i + 1)) (in_stance 0 0)) (sym (take_more (opened ms) i (in_stance 0 0) (omega arith)))
-
-  pub opened_all : i ≡ length ms → opened_to ms i ≡ opened_table ms
-  opened_all e =
-      let long = length-map ms (λ m. in_stance m.opening 0) in
-      ap₂ (λ xs k. xs ++ replicate (16 - k) (in_stance 0 0)) (take_all i (opened ms) (omega arith)) e
+-- a table with the opening state at each place
+pub opened_all : (ms : Meaning) (t : List StationState) → length ms ≤ 16 → length t ≡ 16 →
+    ((k : ℕ) (d : StationState) → k < 16 → get_or t k d ≡ in_stance (meaning_at ms k).opening 0) → t ≡ opened_table ms
+opened_all ms t few long at =
+    let n : length (opened_table ms) ≡ 16 = length-append (opened ms) (replicate (16 - length ms) (in_stance 0 0)) ∙ ap₂ ◌+◌ (length-map ms (λ m. in_stance m.opening 0)) (length-replicate (16 - length ms) (in_stance 0 0)) ∙ omega arith in
+    same_lists t (opened_table ms) (long ∙ sym n) (λ k d l. at k d (omega arith) ∙ sym (opened_at ms k d few (omega arith)))
 
 pub length_created : (k : ℕ) (ms : Meaning) → length (created k ms) ≡ length ms
 length_created k [] = refl

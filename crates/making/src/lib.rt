@@ -18,8 +18,9 @@ use book::refusal::{Fault, Refusal};
 use delivery::ask::stance_of;
 use machine::Machine;
 use machine::gear::Gear;
-use scales::scale::grow;
+use scales::scale::scale_of;
 use semantics::state::StationState;
+use std::array;
 
 // The ticks per second of the station at a place.
 fn scale_at<M: Machine>(machine: &M, place: usize) -> u32
@@ -27,10 +28,7 @@ fn scale_at<M: Machine>(machine: &M, place: usize) -> u32
     ensures value { result ≡ (meaning_at (M.Machine.meaning machine.now) place).scale }
     ensures some { 1 ≤ result }
 {
-    match machine.scale(place + 1) {
-        Some(scale) => scale,
-        None => 1,
-    }
+    machine.scale(place + 1).unwrap_or(1)
 }
 
 // The stance that the station at a place opens in.
@@ -38,44 +36,30 @@ fn opening_at<M: Machine>(machine: &M, place: usize) -> u32
     requires { place + 1 < 2 ^ 64 }
     ensures { result ≡ (meaning_at (M.Machine.meaning machine.now) place).opening }
 {
-    match machine.opening(place + 1) {
-        Some(stance) => stance,
-        None => 0,
-    }
+    machine.opening(place + 1).unwrap_or(0)
 }
 
 // The net scale, or nothing where it is over the limit of scales.
 fn common_scale<M: Machine>(machine: &M) -> Option<u32>
     ensures { result ≡ limited (net_scale (M.Machine.meaning machine.now)) }
 {
-    let mut scale = Some(1);
-    for i in 0..machine.stations() {
-        scale = grow(scale, scale_at(machine, i));
-    }
-    scale
+    // Stays: a net uses no heap, and a machine has at most 16 stations.
+    let scales: [u32; 16] = array::from_fn(|place| scale_at(machine, place));
+    scale_of(&scales[..machine.stations()])
 }
 
 // The factor that gears each station to that scale.
 fn factors_to<M: Machine>(machine: &M, scale: u32) -> [u32; 16]
     ensures { (i : ℕ) → i < length (M.Machine.meaning machine.now) → wanted result i ≡ factor scale (meaning_at (M.Machine.meaning machine.now) i) }
 {
-    let mut factors = [0; 16];
-    for i in 0..machine.stations() {
-        factors[i] = scale / scale_at(machine, i);
-    }
-    factors
+    array::from_fn(|place| scale / scale_at(machine, place))
 }
 
 // The machine geared to its net scale, or the refusal at the first station that cannot be.
 pub fn gear_to_net_scale<M: Machine + Drop>(machine: M) -> Result<Gear<M>, Refusal>
     ensures { MatchResult result (λ g. (first_bad (misfit (net_scale (M.Machine.meaning machine))) 1 (M.Machine.meaning machine) ≡ None) × (g.below ≡ machine) × (geared_by (M.Machine.meaning g.below) g.factors ≡ geared (M.Machine.meaning machine))) (λ e. (first_bad (misfit (net_scale (M.Machine.meaning machine))) 1 (M.Machine.meaning machine) ≡ Some e.place) × (e ≡ refused Scale e.place)) }
 {
-    let Some(scale) = common_scale(&machine) else {
-        return Err(Refusal {
-            fault: Fault::Scale,
-            place: 1,
-        });
-    };
+    let scale = common_scale(&machine).ok_or(Fault::Scale.at(1))?;
     let factors = factors_to(&machine, scale);
     Gear::new(machine, factors)
 }
@@ -84,17 +68,10 @@ pub fn gear_to_net_scale<M: Machine + Drop>(machine: M) -> Result<Gear<M>, Refus
 pub fn opening_states<M: Machine>(machine: &M) -> [StationState; 16]
     ensures { result ≡ opened_table (M.Machine.meaning machine.now) }
 {
-    let mut table = [StationState {
-        stance: 0,
+    array::from_fn(|place| StationState {
+        stance: opening_at(machine, place),
         elapsed: 0,
-    }; 16];
-    for i in 0..machine.stations() {
-        table[i] = StationState {
-            stance: opening_at(machine, i),
-            elapsed: 0,
-        };
-    }
-    table
+    })
 }
 
 // The events that tell of each station's opening, in the first slots.
@@ -102,14 +79,14 @@ pub fn tell_openings<M: Machine>(machine: &M, events: &mut [Event])
     requires { length (M.Machine.meaning machine.now) ≤ length events.old }
     ensures { events.new ≡ created 1 (M.Machine.meaning machine.now) ++ drop (length (M.Machine.meaning machine.now)) events.old }
 {
-    let stations = machine.stations();
-    for i in 0..stations {
-        let stance = opening_at(machine, i);
-        events[i] = Event {
+    let slots = &mut events[..machine.stations()];
+    for (place, event) in slots.iter_mut().enumerate() {
+        let stance = opening_at(machine, place);
+        *event = Event {
             kind: EventKind::Created,
-            station: (i + 1) as u8,
+            station: (place + 1) as u8,
             port: 0,
-            value: stance_of(machine, i, stance).phase,
+            value: stance_of(machine, place, stance).phase,
         };
     }
 }

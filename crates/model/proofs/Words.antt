@@ -1,7 +1,7 @@
 -- The words of a phase, by their places, and its moves.
 use Rattle.std.proofs.Common.{◌≡◌, ℕ, suc, ◌+◌, ◌*◌, ◌<◌, ◌≤◌, Bool, true, false, cond, eqb, ltb, List, [], ◌∷◌, map, length, get_or, drop, Some, None, Option, sym, refl, ap, ◌∙◌, ap₂, arith}
 use Rattle.std.specs.Bool.{then_some}
-use Rattle.std.specs.Option.{option_map}
+use Rattle.std.specs.Option.{is_some, option_map}
 use Rattle.std.proofs.lemmas.List.{drop_more, drop_all}
 use Rattle.std.proofs.lemmas.Bool.{ltb-true, ltb-false, lt-ltb}
 use Rattle.book.specs.Chains.{chain_of}
@@ -13,7 +13,6 @@ use Rattle.semantics.specs.declared.state.Move.{Move}
 use Rattle.semantics.specs.Machine.{move_to}
 use Rattle.semantics.specs.Meanings.{stance_number, move_with}
 use Rattle.places.specs.Firsts.{first_at}
-use Rattle.places.proofs.Asking.{when_some, when_none}
 use Rattle.places.proofs.Firsts.{first_place}
 use Rattle.model.specs.Records.{words_at}
 
@@ -48,20 +47,27 @@ module _ (b : List ℕ) (k : ℕ) where
     abbrev moved : List ℕ → Move
     moved l = move_with i n next (map (read_word b) l)
 
-    pub move_more : (x : Word) → Some x ≡ told_at (n + 1) → move_to w (4 * i + n + 1) ≡ moved (drop n ws)
-    move_more x e =
-        let l : n + 1 < length ws = ltb-true (n + 1) (length ws) (when_some _ _ _ e).0 in
+    more : is_some (told_at (n + 1)) ≡ ltb (n + 1) (length ws)
+    more = go (ltb (n + 1) (length ws))
+      where
+        go : (t : Bool) → is_some (then_some t (read_word b (get_or ws (n + 1) 0))) ≡ t
+        go true = refl
+        go false = refl
+
+    pub move_more : is_some (told_at (n + 1)) ≡ true → move_to w (4 * i + n + 1) ≡ moved (drop n ws)
+    move_more e =
+        let l : n + 1 < length ws = ltb-true (n + 1) (length ws) (sym more ∙ e) in
         let h : n < length ws = omega arith in
         let is : w ≡ Some (read_word b (get_or ws n 0)) = here ∙ ap (λ t. then_some t (read_word b (get_or ws n 0))) (lt-ltb n (length ws) h) in
         let split : drop n ws ≡ get_or ws n 0 ∷ get_or ws (n + 1) 0 ∷ drop (n + 1 + 1) ws = drop_more ws n 0 h ∙ ap (λ r. get_or ws n 0 ∷ r) (drop_more ws (n + 1) 0 l) in
         let number : 4 * i + n + 1 ≡ 4 * i + suc n = omega arith in
         ap₂ move_to is number ∙ sym (ap moved split)
 
-    pub move_last : (m : ℕ) → m ≡ stance_number next 0 → None ≡ told_at (n + 1) → move_to w m ≡ moved (drop n ws)
+    pub move_last : (m : ℕ) → m ≡ stance_number next 0 → is_some (told_at (n + 1)) ≡ false → move_to w m ≡ moved (drop n ws)
     move_last m number e = go (ltb n (length ws)) refl
       where
         past : length ws ≤ n + 1
-        past = ltb-false (n + 1) (length ws) (when_none _ _ e)
+        past = ltb-false (n + 1) (length ws) (sym more ∙ e)
 
         go : (t : Bool) → ltb n (length ws) ≡ t → move_to w m ≡ moved (drop n ws)
         go true h =

@@ -13,6 +13,7 @@ use places::table::Places;
 pub struct Model<'a> {
     pub(crate) book: &'a [u8],
     pub(crate) places: Places,
+    // Stays: a machine uses no heap, and a lawful book has at most 16 stations.
     pub(crate) scales: [u32; 16],
     ghost bytes: { Bytes book.now },
     ghost accepted: { accepts book.now ModelBook ≡ true },

@@ -1,9 +1,10 @@
 // What the machine reads at a phase.
-ghost use Rattle.std.specs.Prelude.{◌≡◌, ℕ, ◌<◌, false, ◌&&◌, map, length, drop, ◌==◌, nat_lt, slice_index};
+ghost use Rattle.std.specs.Prelude.{◌≡◌, ℕ, ◌<◌, false, ◌&&◌, map, length, drop, nat_lt, slice_index};
 ghost use Rattle.std.specs.Bool.{then_some};
 ghost use Rattle.std.specs.Option.{unwrap_or};
 ghost use Rattle.book.specs.declared.record.Word.{Word as Letter};
 ghost use Rattle.book_scales.specs.Scales.{fitting_scale};
+ghost use Rattle.records.specs.Heads.{order_in};
 ghost use Rattle.fields.specs.Fields.{phase_at, edge_at, is_endless};
 ghost use Rattle.semantics.specs.Books.{read_word, read_order};
 ghost use Rattle.semantics.specs.Times.{inside, counts, itself};
@@ -17,64 +18,36 @@ ghost use Rattle.places.specs.Standing.{PhaseOf};
 ghost use Rattle.model.specs.Records.{words_at, phase_tree};
 
 use super::model::Model;
-use book::bytes::byte_at;
+use book::bytes::parts_at;
 use book::record::{Fraction, ModelBody, Word};
-use book::term::Order;
 use book_scales::book_scale::station_scale;
-use chains::member::Test;
 use fields::model::{edge_at, is_endless, lifetime_at, phase_at};
-use fields::row::{order_in, rest_of};
 use machine::stance::StanceInfo;
 use moments::moment::Moment;
 use moments::window::{does_count, is_among, is_inside};
 use places::search::first_in_chain;
 use places::table::Places;
+use records::heads::order_in;
+use records::model::word_in;
 use scales::scale::in_ticks;
 use semantics::state::Move;
+use std::array;
 
 // The scales of the stations.
 pub(crate) fn scales_of(book: &[u8], places: &Places) -> [u32; 16]
     ensures { (i : ℕ) → i < 16 → i < places.now.stations → slice_index result i ≡ fitting_scale book.now (station_in places.now i) }
 {
-    let mut scales = [0; 16];
-    for i in 0..places.stations().min(16) {
-        scales[i] = station_scale(book, places.station_at(i)).unwrap_or(0);
-    }
-    scales
+    array::from_fn(|i| station_scale(book, places.station_at(i)).unwrap_or(0))
 }
 
-// A record by its place in a chain.
-#[derive(Drop)]
-struct AtPlace {
-    place: usize,
-}
-
-impl Test for AtPlace {
-    ghost passing = { λ v b i k. (i == v.place) };
-
-    fn passes(&self, book: &[u8], place: usize, k: u16) -> bool {
-        place == self.place
-    }
-}
-
-// An edge that takes a word at a moment, in a phase with this lifetime.
-#[derive(Drop)]
-struct Taking {
-    order: Order,
-    lifetime: Option<Fraction>,
-    word: Word,
-    moment: Moment,
-}
-
-impl Test for Taking {
-    ghost passing = { λ v b i k. word_fits (edge_at b k).port (edge_at b k).lowest (edge_at b k).highest v.word.port v.word.value && (inside itself (edge_at b k).window (time_of v.moment) && counts v.order v.lifetime (time_of v.moment)) };
-
-    fn passes(&self, book: &[u8], place: usize, k: u16) -> bool {
-        let edge = edge_at(book, k);
-        is_among(self.word, edge.port, edge.lowest, edge.highest)
-            && is_inside(edge.window, self.moment)
-            && does_count(self.order, self.lifetime, self.moment)
-    }
+// Whether edge e takes the word at the moment, in a phase with this lifetime.
+fn does_take(book: &[u8], lifetime: Option<Fraction>, word: Word, moment: Moment, e: u16) -> bool
+    ensures { result ≡ (word_fits (edge_at book.now e).port (edge_at book.now e).lowest (edge_at book.now e).highest word.port word.value && (inside itself (edge_at book.now e).window (time_of moment) && counts (order_in book.now) lifetime (time_of moment))) }
+{
+    let edge = edge_at(book, e);
+    is_among(word, edge.port, edge.lowest, edge.highest)
+        && is_inside(edge.window, moment)
+        && does_count(order_in(book), lifetime, moment)
 }
 
 // The number of the stance of a phase, by its place, with no word sent.
@@ -82,17 +55,6 @@ pub(crate) fn quiet_number(place: u16) -> u32
     ensures { result ≡ stance_number place 0 }
 {
     4 * u32::from(place)
-}
-
-// The word in a record.
-fn word_in(book: &[u8], k: u16) -> Word
-    ensures { result ≡ read_word book.now k }
-{
-    let rest = rest_of(book, k);
-    Word {
-        port: byte_at(rest, 0),
-        value: byte_at(rest, 1),
-    }
 }
 
 impl Model<'_> {
@@ -104,9 +66,12 @@ impl Model<'_> {
         if is_endless(phase.lifetime) {
             return None;
         }
-        let test = AtPlace { place };
-        let found = first_in_chain::<ModelBody, AtPlace>(&test, self.book, phase.first_word)?;
-        Some(word_in(self.book, found))
+        let found = first_in_chain::<ModelBody, _>(
+            self.book,
+            phase.first_word,
+            |at| at.0 == place,
+        )?;
+        Some(word_in(&parts_at(self.book, found)))
     }
 
     // The move of a phase that lasts, with so many words sent.
@@ -116,9 +81,10 @@ impl Model<'_> {
     {
         let next = quiet_number(self.places.place_of(phase_at(self.book, k).next_phase));
         let word = self.word_at(k, sent as usize);
-        let follows = match self.word_at(k, sent as usize + 1) {
-            Some(_) => 4 * place + sent + 1,
-            None => next,
+        let follows = if self.word_at(k, sent as usize + 1).is_some() {
+            4 * place + sent + 1
+        } else {
+            next
         };
         Move { word, follows }
     }
@@ -171,14 +137,11 @@ impl Model<'_> {
         requires phase { PhaseOf self.now.book.now station k }
         ensures { result ≡ first (edge_fits (read_order self.now.book.now) (lifetime_of (phase_tree self.now.book.now station k)) word.port word.value (time_of moment)) (λ x. stance_number x.goal 0) (edges_of (phase_tree self.now.book.now station k)) }
     {
-        let test = Taking {
-            order: order_in(self.book),
-            lifetime: lifetime_at(self.book, k),
-            word,
-            moment,
-        };
+        let lifetime = lifetime_at(self.book, k);
         let first = phase_at(self.book, k).first_edge;
-        let edge = first_in_chain::<ModelBody, Taking>(&test, self.book, first)?;
+        let edge = first_in_chain::<ModelBody, _>(self.book, first, |at| {
+            does_take(self.book, lifetime, word, moment, at.1)
+        })?;
         Some(quiet_number(self.places.place_of(edge_at(self.book, edge).goal)))
     }
 }

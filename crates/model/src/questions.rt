@@ -85,8 +85,7 @@ impl Machine for Model<'_> {
         &self,
         station: usize,
         stance: u32,
-        port: u8,
-        value: u8,
+        word: Word,
         elapsed: u64,
         per_tick: u64,
     ) -> Option<Option<u32>> {
@@ -103,6 +102,6 @@ impl Machine for Model<'_> {
             numerator: elapsed,
             denominator: per_tick * u64::from(scale),
         };
-        Some(self.heard(place, k, Word { port, value }, moment))
+        Some(self.heard(place, k, word, moment))
     }
 }

@@ -2,20 +2,12 @@
 ghost use Rattle.std.specs.Prelude.{◌≡◌};
 ghost use Rattle.visits.specs.Smallest.{smallest};
 ghost use Rattle.visits.specs.Visits.{faults};
-ghost use Rattle.model_rules.specs.Rules.{outside, wrong_next, goals};
+ghost use Rattle.model_rules.specs.Rules.{wrong_next, goals};
 
-use book::bytes::{row_of, two_at};
 use book::record::{ModelBody, Phase};
-use chains::member::is_in_chain;
+use chains::member::is_outside;
 use fields::model::{edge_at, is_endless, phase_at, station_at};
 use visits::rule::{Rules, first_fault};
-
-// Whether record k is no phase of station s.
-fn is_outside(book: &[u8], s: u16, k: u16) -> bool
-    ensures { result ≡ outside book.now s k }
-{
-    !is_in_chain::<ModelBody>(book, two_at(row_of(book, s), 4), k)
-}
 
 // Whether the phase's next phase and words do not suit its lifetime.
 fn has_wrong_next(book: &[u8], s: u16, phase: Phase) -> bool
@@ -24,7 +16,7 @@ fn has_wrong_next(book: &[u8], s: u16, phase: Phase) -> bool
     if is_endless(phase.lifetime) {
         phase.next_phase != 0 || phase.first_word != 0
     } else {
-        is_outside(book, s, phase.next_phase)
+        is_outside::<ModelBody>(book, s, phase.next_phase)
     }
 }
 
@@ -35,7 +27,7 @@ impl Rules for Goals {
     ghost rule = { λ _. goals };
 
     fn station(&self, book: &[u8], place: usize, s: u16) -> bool {
-        is_outside(book, s, station_at(book, s).opening)
+        is_outside::<ModelBody>(book, s, station_at(book, s).opening)
     }
 
     fn phase(&self, book: &[u8], s: u16, place: usize, p: u16) -> bool {
@@ -43,7 +35,7 @@ impl Rules for Goals {
     }
 
     fn edge(&self, book: &[u8], s: u16, p: u16, e: u16) -> bool {
-        is_outside(book, s, edge_at(book, e).goal)
+        is_outside::<ModelBody>(book, s, edge_at(book, e).goal)
     }
 
     fn word(&self, book: &[u8], place: usize, w: u16) -> bool {

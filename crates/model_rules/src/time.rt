@@ -27,9 +27,5 @@ pub fn is_wrong_lifetime(time: Fraction) -> bool
 pub fn is_wrong_high(high: HighEnd<Fraction>) -> bool
     ensures { result ≡ wrong_high high }
 {
-    match high {
-        HighEnd::Closed(time) => is_wrong_time(time),
-        HighEnd::Open(time) => is_wrong_time(time),
-        HighEnd::Absent => false,
-    }
+    high.end().is_some_and(is_wrong_time)
 }

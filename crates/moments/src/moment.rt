@@ -1,10 +1,11 @@
 // Moments, and their order.
 ghost use Rattle.std.specs.Prelude.{◌≡◌, ◌*◌, ◌≤◌, true};
-ghost use Rattle.book.specs.declared.record.Fraction.{Fraction as Time};
-ghost use Rattle.semantics.specs.Times.{before, at_most, itself, whole};
+ghost use Rattle.semantics.specs.Times.{whole};
+ghost use Rattle.moments.specs.declared.moment.Moment.{Moment};
 ghost use Rattle.moments.specs.Moments.{time_of, parts_allowed};
 
 use book::record::Fraction;
+use spans::time::Time;
 
 // A time as a fraction, in seconds or in ticks.
 #[derive(Clone, Copy)]
@@ -13,55 +14,51 @@ pub struct Moment {
     pub denominator: u64,
 }
 
-// Moments are compared by cross products.
-impl Moment {
-    // Whether it is earlier than the other.
-    pub fn is_before(self, other: Moment) -> bool
-        ensures { result ≡ before (time_of self) (time_of other) }
-    {
+// Moments are compared by cross products, as fractions are, in numbers of twice the width.
+impl Time for Moment {
+    ghost time = { time_of };
+
+    fn is_before(self, other: Moment) -> bool {
         u128::from(self.numerator) * u128::from(other.denominator)
             < u128::from(other.numerator) * u128::from(self.denominator)
     }
-
-    // Whether it is no later than the other.
-    pub fn is_at_most(self, other: Moment) -> bool
-        ensures { result ≡ at_most (time_of self) (time_of other) }
-    {
-        u128::from(self.numerator) * u128::from(other.denominator)
-            <= u128::from(other.numerator) * u128::from(self.denominator)
-    }
 }
 
-// A kind of time that the ends of a window are given in.
-pub trait End: Copy {
-    // the fraction that it stands for
-    ghost time: { Self → Time };
+impl From<Fraction> for Moment {
+    ghost from_gives = { λ t m. time_of m ≡ t };
 
-    fn moment(self) -> Moment
-        ensures { time_of result ≡ time self };
-}
-
-impl End for Fraction {
-    ghost time = { itself };
-
-    fn moment(self) -> Moment {
+    fn from(time: Fraction) -> Moment {
         Moment {
-            numerator: u64::from(self.numerator),
-            denominator: u64::from(self.denominator),
+            numerator: u64::from(time.numerator),
+            denominator: u64::from(time.denominator),
         }
     }
 }
 
 // A number of whole ticks.
-impl End for u64 {
-    ghost time = { whole };
+impl From<u64> for Moment {
+    ghost from_gives = { λ n m. time_of m ≡ whole n };
 
-    fn moment(self) -> Moment {
+    fn from(ticks: u64) -> Moment {
         Moment {
-            numerator: self,
+            numerator: ticks,
             denominator: 1,
         }
     }
+}
+
+// A kind of time that is compared with moments.
+pub trait End: Time + Into<Moment> {
+    // the moment is the time that it was made of
+    ghost keeps_time: { (x : Self) (m : Moment) → Self.converts x m → time_of m ≡ Self.time x };
+}
+
+impl End for Fraction {
+    ghost keeps_time = { λ x m e. e };
+}
+
+impl End for u64 {
+    ghost keeps_time = { λ x m e. e };
 }
 
 // Whether so many parts per tick may be asked of a station of that scale: 1 to 1,000,000,000 per

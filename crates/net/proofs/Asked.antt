@@ -1,6 +1,6 @@
 -- What is asked of a table: the lowest station that passes a test, and what a station tells.
 use Rattle.std.proofs.Common.{◌≡◌, ℕ, zero, suc, ◌-◌, ◌<◌, ◌≤◌, Bool, cond, ◌⊎◌, List, length, take, Some, Option, sym, refl, ap, ◌∙◌, ap₂, inl, inr, arith}
-use Rattle.std.proofs.lemmas.List.{get_or-take, length-take-le}
+use Rattle.std.proofs.lemmas.List.{get_or-take}
 use Rattle.std.proofs.lemmas.Bool.{lt-ltb, le-ltb}
 use Rattle.semantics.specs.declared.state.StationState.{StationState}
 use Rattle.semantics.specs.Machine.{meaning_at}
@@ -15,11 +15,9 @@ use Rattle.machine.specs.Stances.{told}
 pub place_under : (p : ℕ → Bool) (n i : ℕ) → Some i ≡ lowest p 0 n → i < n
 place_under p n i e = let l = (is_lowest p 0 n i (sym e)).under in omega arith
 
--- a search of the front of a table is one of all stations
-pub searched : (p : List StationState → ℕ → Bool) (table : List StationState) (n l : ℕ) → n ≡ l → n ≤ length table → (o : Option ℕ) →
-    o ≡ lowest (p (take n table)) 0 (length (take n table)) → number o ≡ number (lowest (p (take l table)) 0 l)
-searched p table n l is few o e =
-    ap number (e ∙ ap (lowest (p (take n table)) 0) (length-take-le n table few) ∙ ap (λ k. lowest (p (take k table)) 0 k) is)
+-- a search of the stations' states is one of all stations
+pub searched : (p : ℕ → Bool) (n l : ℕ) → n ≡ l → (o : Option ℕ) → o ≡ lowest p 0 n → number o ≡ number (lowest p 0 l)
+searched p n l is o e = ap number (e ∙ ap (lowest p 0) is)
 
 -- What a station tells that is there, and one that is not.
 module _ (net : Net) (table : List StationState) (total : ℕ) where

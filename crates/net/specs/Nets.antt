@@ -24,14 +24,14 @@ state_over meaning g table total = record { stations = take (length (learned (ge
 
 -- the machine of a net, as it is geared
 abbrev pub gear_of : {M : Type 0} {G : Ghosts M} → Held M G → Gear M
-gear_of x = x.machine
+gear_of x = x.rules.machine
 
 -- the net, and its state
 abbrev pub net_of : {M : Type 0} {G : Ghosts M} → (M → Meaning) → Held M G → Net
-net_of meaning x = net_over meaning x.machine x.order x.parts
+net_of meaning x = net_over meaning x.rules.machine x.rules.order x.rules.parts.number
 
 abbrev pub state_of : {M : Type 0} {G : Ghosts M} → (M → Meaning) → Held M G → NetState
-state_of meaning x = state_over meaning x.machine x.table x.total
+state_of meaning x = state_over meaning x.rules.machine x.table x.total
 
 -- how it is to answer a call that comes with these paths
 abbrev pub outcome : {M : Type 0} {G : Ghosts M} → (M → Meaning) → Held M G → List Path → Call → Outcome

@@ -9,6 +9,7 @@ use book::event::Event;
 use book::refusal::{Fault, Refusal};
 use book::term::{Order, Path};
 use calls::first_bad_path;
+use delivery::rules::{Parts, Rules};
 use machine::Machine;
 use making::{gear_to_net_scale, opening_states, tell_openings};
 
@@ -27,29 +28,20 @@ fn build<M: Machine + Drop>(
     let machine = gear_to_net_scale(machine)?;
     let stations = machine.stations();
     if let Some(place) = first_bad_path(stations, paths) {
-        return Err(Refusal {
-            fault: Fault::Paths,
-            place,
-        });
+        return Err(Fault::Paths.at(place));
     }
     if events.len() < stations {
-        return Err(Refusal {
-            fault: Fault::Room,
-            place: 0,
-        });
+        return Err(Fault::Room.at(0));
     }
-    if parts == 0 || parts > 1000 {
-        return Err(Refusal {
-            fault: Fault::Parts,
-            place: 0,
-        });
-    }
+    let parts = Parts::try_from(parts)?;
     tell_openings(&machine, events);
     let table = opening_states(&machine);
     Ok(Net {
-        machine,
-        order,
-        parts,
+        rules: Rules {
+            machine,
+            order,
+            parts,
+        },
         total: 0,
         table,
     })

@@ -9,7 +9,6 @@ use super::table::count;
 use book::event::Event;
 use book::refusal::{Fault, Refusal};
 use book::term::Path;
-use delivery::test::Test;
 use machine::Machine;
 
 // The most parts that all waits of a net may come to.
@@ -21,7 +20,7 @@ impl<M: Machine> Net<M> {
         ensures value { result ≡ length (net_of M.Machine.meaning self.now).stations }
         ensures few { result ≤ 16 }
     {
-        count(&self.machine)
+        count(&self.rules.machine)
     }
 
     // What a station tells: its phase, words sent and elapsed parts together. Station 0 and one past
@@ -29,10 +28,7 @@ impl<M: Machine> Net<M> {
     pub fn tell(&self, station: usize) -> (u16, u8, u64)
         ensures { result ≡ telling (net_of M.Machine.meaning self.now) (state_of M.Machine.meaning self.now) station }
     {
-        match self.told_by(station) {
-            Some(telling) => telling,
-            None => (0, 0, 0),
-        }
+        self.told_by(station).unwrap_or((0, 0, 0))
     }
 
     // Lets so many parts pass.
@@ -42,23 +38,14 @@ impl<M: Machine> Net<M> {
         ensures net { net_of M.Machine.meaning self.new ≡ net_of M.Machine.meaning self.old }
         ensures machine { gear_of self.new ≡ gear_of self.old }
     {
-        if let Some(place) = self.lowest_station(Test::Busy) {
-            return Err(Refusal {
-                fault: Fault::Busy,
-                place,
-            });
+        if let Some(station) = self.busy_station() {
+            return Err(Fault::Busy.at(station));
         }
-        if let Some(place) = self.lowest_station(Test::Past(d)) {
-            return Err(Refusal {
-                fault: Fault::Lifetime,
-                place,
-            });
+        if let Some(station) = self.past_station(d) {
+            return Err(Fault::Lifetime.at(station));
         }
         if d > MOST_PARTS - self.total {
-            return Err(Refusal {
-                fault: Fault::Total,
-                place: 0,
-            });
+            return Err(Fault::Total.at(0));
         }
         let table = self.after_wait(d);
         self.table = table;

@@ -2,9 +2,8 @@
 ghost use Rattle.std.specs.Prelude.{◌≡◌, ℕ, ◌+◌, ◌^◌, ◌<◌, ◌≤◌, map, length};
 ghost use Rattle.std.specs.Option.{unwrap_or};
 ghost use Rattle.semantics.specs.Net.{state_at};
-ghost use Rattle.semantics.specs.Calls.{lowest, number, telling, waited, word as word_call, step as step_call};
+ghost use Rattle.semantics.specs.Calls.{lowest_busy, lowest_past, number, telling, waited, word as word_call, step as step_call};
 ghost use Rattle.delivery.specs.Known.{learned};
-ghost use Rattle.delivery.specs.Tests.{test_at};
 ghost use Rattle.gearing.specs.Gearing.{geared_by};
 ghost use Rattle.calls.specs.Slots.{counted, written};
 ghost use Rattle.net.specs.Invariant.{Within};
@@ -12,11 +11,11 @@ ghost use Rattle.net.specs.Nets.{net_of, state_over, state_of, outcome, later};
 
 use super::held::Net;
 use book::event::Event;
+use book::record::Word;
 use book::refusal::Refusal;
 use book::term::Path;
 use calls::{step, word};
-use delivery::ask::{lowest_place, stance_of};
-use delivery::test::Test;
+use delivery::ask::stance_of;
 use machine::Machine;
 use machine::gear::Gear;
 use semantics::state::StationState;
@@ -34,12 +33,8 @@ fn advance(table: &mut [StationState; 16], more: u64)
     requires { (i : ℕ) → (state_at table.old i).elapsed + more < 2 ^ 64 }
     ensures { table.new ≡ map (later more) table.old }
 {
-    for i in 0..16 {
-        let state = table[i];
-        table[i] = StationState {
-            stance: state.stance,
-            elapsed: state.elapsed + more,
-        };
+    for state in table.iter_mut() {
+        state.elapsed += more;
     }
 }
 
@@ -48,29 +43,43 @@ impl<M: Machine> Net<M> {
     pub(crate) fn told_by(&self, station: usize) -> Option<(u16, u8, u64)>
         ensures { unwrap_or result (0, 0, 0) ≡ telling (net_of M.Machine.meaning self.now) (state_of M.Machine.meaning self.now) station }
     {
-        if station == 0 || station > count(&self.machine) {
+        if station == 0 || station > count(&self.rules.machine) {
             return None;
         }
         let state = self.table[station - 1];
-        let info = stance_of(&self.machine, station - 1, state.stance);
+        let info = stance_of(&self.rules.machine, station - 1, state.stance);
         Some((info.phase, info.sent, state.elapsed))
     }
 
-    // The lowest station that passes a test.
-    pub(crate) fn lowest_station(&self, test: Test) -> Option<usize>
-        ensures { result ≡ number (lowest (test_at test (net_of M.Machine.meaning self.now).stations self.now.parts (state_of M.Machine.meaning self.now).stations) 0 (length (net_of M.Machine.meaning self.now).stations)) }
+    // The states of the stations.
+    pub(crate) fn states(&self) -> &[StationState]
+        ensures value { result.now ≡ (state_of M.Machine.meaning self.now).stations }
+        ensures long { length result.now ≡ length (net_of M.Machine.meaning self.now).stations }
+        ensures few { length result.now ≤ 16 }
     {
-        let stations = count(&self.machine);
-        match lowest_place(&self.machine, self.parts, &self.table[..stations], test) {
-            Some(place) => Some(place + 1),
-            None => None,
-        }
+        &self.table[..count(&self.rules.machine)]
+    }
+
+    // The lowest busy station.
+    pub(crate) fn busy_station(&self) -> Option<usize>
+        ensures { result ≡ number (lowest_busy (net_of M.Machine.meaning self.now) (state_of M.Machine.meaning self.now)) }
+    {
+        let place = self.rules.lowest_busy(self.states())?;
+        Some(place + 1)
+    }
+
+    // The lowest station that would be past its lifetime after so many more parts.
+    pub(crate) fn past_station(&self, more: u64) -> Option<usize>
+        ensures { result ≡ number (lowest_past (net_of M.Machine.meaning self.now) (state_of M.Machine.meaning self.now) more) }
+    {
+        let place = self.rules.lowest_past(self.states(), more)?;
+        Some(place + 1)
     }
 
     // The table that a wait of so many parts leaves.
     pub(crate) fn after_wait(&self, d: u64) -> [StationState; 16]
         requires { self.now.total + d < 2 ^ 64 }
-        ensures state { state_over M.Machine.meaning self.now.machine result (self.now.total + d) ≡ waited (net_of M.Machine.meaning self.now) d (state_of M.Machine.meaning self.now) }
+        ensures state { state_over M.Machine.meaning self.now.rules.machine result (self.now.total + d) ≡ waited (net_of M.Machine.meaning self.now) d (state_of M.Machine.meaning self.now) }
         ensures within { Within result (self.now.total + d) }
         ensures long { length result ≡ 16 }
     {
@@ -89,27 +98,24 @@ impl<M: Machine> Net<M> {
     ) -> ([StationState; 16], Result<usize, Refusal>)
         ensures answer { result.1 ≡ counted (outcome M.Machine.meaning self.now paths.now (word_call port value (length events.old))).answer }
         ensures slots { events.new ≡ written (outcome M.Machine.meaning self.now paths.now (word_call port value (length events.old))).answer events.old }
-        ensures state { state_over M.Machine.meaning self.now.machine result.0 self.now.total ≡ (outcome M.Machine.meaning self.now paths.now (word_call port value (length events.old))).state }
+        ensures state { state_over M.Machine.meaning self.now.rules.machine result.0 self.now.total ≡ (outcome M.Machine.meaning self.now paths.now (word_call port value (length events.old))).state }
         ensures within { Within result.0 self.now.total }
         ensures long { length result.0 ≡ 16 }
     {
-        let stations = count(&self.machine);
+        let stations = count(&self.rules.machine);
         let mut table = self.table;
         let answer = word(
-            &self.machine,
-            self.order,
-            self.parts,
-            self.total,
+            &self.rules,
             paths,
-            port,
-            value,
+            Word { port, value },
             &mut table[..stations],
             events,
         );
         (table, answer)
     }
 
-    // The table that a step leaves, and what is answered.
+    // The table that a step leaves, and what is answered. Only the call is another one than for a
+    // word; a function that took the call as a closure would need a contract longer than both.
     pub(crate) fn after_step(
         &self,
         paths: &[Path],
@@ -117,21 +123,13 @@ impl<M: Machine> Net<M> {
     ) -> ([StationState; 16], Result<usize, Refusal>)
         ensures answer { result.1 ≡ counted (outcome M.Machine.meaning self.now paths.now (step_call (length events.old))).answer }
         ensures slots { events.new ≡ written (outcome M.Machine.meaning self.now paths.now (step_call (length events.old))).answer events.old }
-        ensures state { state_over M.Machine.meaning self.now.machine result.0 self.now.total ≡ (outcome M.Machine.meaning self.now paths.now (step_call (length events.old))).state }
+        ensures state { state_over M.Machine.meaning self.now.rules.machine result.0 self.now.total ≡ (outcome M.Machine.meaning self.now paths.now (step_call (length events.old))).state }
         ensures within { Within result.0 self.now.total }
         ensures long { length result.0 ≡ 16 }
     {
-        let stations = count(&self.machine);
+        let stations = count(&self.rules.machine);
         let mut table = self.table;
-        let answer = step(
-            &self.machine,
-            self.order,
-            self.parts,
-            self.total,
-            paths,
-            &mut table[..stations],
-            events,
-        );
+        let answer = step(&self.rules, paths, &mut table[..stations], events);
         (table, answer)
     }
 }

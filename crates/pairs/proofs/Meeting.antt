@@ -1,32 +1,31 @@
 -- Takers that meet, one after another of a list, and in a table that was filled from a chain.
-use Rattle.std.proofs.Common.{◌≡◌, ℕ, suc, ◌+◌, ◌<◌, Bool, not, ◌&&◌, ◌||◌, eqb, List, [], ◌∷◌, ◌++◌, map, length, get_or, take, drop, Option, sym, refl, ap, ◌∙◌}
-use Rattle.std.proofs.lemmas.List.{at_drop_more, take_more, flat_map_more}
+use Rattle.std.proofs.Common.{◌≡◌, ℕ, suc, Bool, true, false, not, ◌&&◌, ◌||◌, eqb, List, [], ◌∷◌, ◌++◌, map, refl, ap, ◌∙◌}
+use Rattle.std.specs.Bool.{then_some}
+use Rattle.std.specs.Prelude.{min}
+use Rattle.std.specs.List.{reduce, filter_map, cons_option}
 use Rattle.semantics.specs.Times.{Fraction}
-use Rattle.visits.specs.Smallest.{least, smallest, only_if, along}
-use Rattle.visits.proofs.Least.{of_both}
+use Rattle.visits.specs.Smallest.{smallest, only_if, along}
+use Rattle.visits.proofs.Least.{min_smallest}
 use Rattle.chains.specs.Some.{some_at, some}
 use Rattle.pairs.specs.declared.taker.Taker.{Taker}
-use Rattle.pairs.specs.Pairs.{Heard, both_take, meets, some_meets, meeting}
+use Rattle.pairs.specs.Pairs.{Heard, both_take, some_meets, meeting}
 
 module _ {T : Type 0} (time : T → Fraction) where
-  -- one more is compared
-  pub meets_more : (x : Taker T) (ys : List (Taker T)) (i : ℕ) (y : Taker T) (t : Bool) → i < length ys → y ≡ get_or ys i y → t ≡ meets time x y
-      → (t || some_meets time x (drop (i + 1) ys)) ≡ some_meets time x (drop i ys)
-  meets_more x ys i y t h is et =
-      ap (λ z. z || some_meets time x (drop (i + 1) ys)) (et ∙ ap (meets time x) is)
-      ∙ sym (at_drop_more (some_meets time x) ys i y h)
+  module _ (ys : List (Taker T)) where
+    -- the edges of those that meet one of ys
+    all_met : (xs : List (Taker T)) → filter_map (λ x. then_some (some_meets time x ys) x.edge) xs ≡ meeting time ys xs
+    all_met [] = refl
+    all_met (x ∷ xs) = go (some_meets time x ys) (all_met xs)
+      where
+        more : List ℕ
+        more = filter_map (λ z. then_some (some_meets time z ys) z.edge) xs
 
-  -- one more is looked at
-  pub meeting_more : (ys : List (Taker T)) (i : ℕ) (x : Taker T) (t : Bool) (best here best' : Option ℕ)
-      → i < length ys → x ≡ get_or ys i x → t ≡ some_meets time x ys
-      → best ≡ smallest (meeting time ys (take i ys)) → here ≡ smallest (only_if t x.edge) → best' ≡ least best here
-      → best' ≡ smallest (meeting time ys (take (i + 1) ys))
-  meeting_more ys i x t best here best' h is et eb eh el =
-      let found : Taker T → List ℕ = λ z. only_if (some_meets time z ys) z.edge in
-      of_both (meeting time ys (take i ys)) (found x) best here best' eb (eh ∙ ap (λ z. smallest (only_if z x.edge)) et) el
-      ∙ ap smallest (flat_map_more found [] (take i ys) x)
-      ∙ ap (λ z. smallest (meeting time ys (take i ys ++ z ∷ []))) is
-      ∙ ap (λ l. smallest (meeting time ys l)) (sym (take_more ys i x h))
+        go : (t : Bool) → more ≡ meeting time ys xs → cons_option (then_some t x.edge) more ≡ only_if t x.edge ++ meeting time ys xs
+        go true e = ap (λ l. x.edge ∷ l) e
+        go false e = e
+
+    pub first_met : (xs : List (Taker T)) → reduce min (filter_map (λ x. then_some (some_meets time x ys) x.edge) xs) ≡ smallest (meeting time ys xs)
+    first_met xs = min_smallest (filter_map (λ x. then_some (some_meets time x ys) x.edge) xs) ∙ ap smallest (all_met xs)
 
   module _ (heard : ℕ → Heard T) where
     abbrev taker : ℕ → Taker T

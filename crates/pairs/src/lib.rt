@@ -3,5 +3,6 @@
 
 #![tactic(auto)]
 
+pub mod search;
 pub mod shared;
 pub mod taker;

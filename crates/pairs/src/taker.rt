@@ -5,7 +5,6 @@ ghost use Rattle.pairs.specs.Pairs.{both_take, meets, some_meets, meeting};
 
 use spans::hearing::Hearing;
 use spans::time::Time;
-use visits::visit::{if_broken, least_of};
 
 // An edge by its record, and what it takes; nothing unless it hears.
 #[derive(Clone, Copy)]
@@ -18,15 +17,12 @@ pub struct Taker<T> {
 fn both_take<T: Time>(x: Option<Hearing<T>>, y: Option<Hearing<T>>) -> bool
     ensures { result ≡ both_take T.Time.time x y }
 {
-    match (x, y) {
-        (Some(one), Some(other)) => one.shares_word(other),
-        _ => false,
-    }
+    x.zip(y).is_some_and(|(one, other)| one.shares_word(other))
 }
 
 impl<T: Time> Taker<T> {
     // Whether the other is another edge, and both take some word at some moment.
-    fn meets(self, other: Taker<T>) -> bool
+    pub(crate) fn meets(self, other: Taker<T>) -> bool
         ensures { result ≡ meets T.Time.time self other }
     {
         other.edge != self.edge && both_take(self.hearing, other.hearing)
@@ -36,12 +32,7 @@ impl<T: Time> Taker<T> {
     fn meets_one(self, takers: &[Taker<T>]) -> bool
         ensures { result ≡ some_meets T.Time.time self takers.now }
     {
-        for other in takers {
-            if self.meets(*other) {
-                return true;
-            }
-        }
-        false
+        takers.iter().any(|other| self.meets(*other))
     }
 }
 
@@ -49,9 +40,8 @@ impl<T: Time> Taker<T> {
 pub fn first_meeting<T: Time>(takers: &[Taker<T>]) -> Option<u16>
     ensures { result ≡ smallest (meeting T.Time.time takers.now takers.now) }
 {
-    let mut best = None;
-    for taker in takers {
-        best = least_of(best, if_broken(taker.meets_one(takers), taker.edge));
-    }
-    best
+    takers
+        .iter()
+        .filter_map(|taker| taker.meets_one(takers).then_some(taker.edge))
+        .min()
 }

@@ -1,59 +1,22 @@
--- Looking along a chain, turn by turn.
-use Rattle.std.proofs.Common.{◌≡◌, ℕ, zero, suc, ◌+◌, ◌-◌, ◌<◌, ◌≤◌, Bool, true, false, cond, eqb, ltb, List, [], ◌∷◌, map, length, get_or, Some, None, sym, refl, ap, ◌∙◌, subst, arith}
+-- Looking along a chain.
+use Rattle.std.proofs.Common.{◌≡◌, ℕ, zero, suc, ◌+◌, Bool, true, false, cond, eqb, ltb, List, [], ◌∷◌, map, length, get_or, Some, sym, refl, ap, ◌∙◌, subst, arith}
 use Rattle.std.specs.Option.{option_map}
 use Rattle.std.specs.Bool.{then_some}
-use Rattle.std.specs.List.{AllByRecursion}
+use Rattle.std.specs.List.{AllByRecursion, find, enumerate_from}
 use Rattle.std.proofs.lemmas.Bool.Decides.{nat_tests}
 use Rattle.std.proofs.lemmas.Bool.{eq-eqb, ne_eqb, le-ltb, lt-ltb}
-use Rattle.book.specs.Bytes.{row}
-use Rattle.book.specs.Chains.{chain, chain_of, next_index, whole_records}
-use Rattle.links.proofs.Chains.{chain_on}
-use Rattle.links.proofs.Counting.{one_less}
 use Rattle.semantics.specs.Fits.{first}
 use Rattle.semantics.proofs.Options.{some_not_none, inner}
 use Rattle.places.specs.Firsts.{first_at}
 
--- at record k, with so many looked at: what is left gives the answer
-pub record Looking (b : List ℕ) (passes : ℕ → ℕ → Bool) (n first place k : ℕ) : Type 0 where
-  pub whole : n ≡ whole_records b
-  pub within : place ≤ n
-  pub left_gives : first_at passes place (chain (λ j. next_index (row b j)) n (n - place) k) ≡ first_at passes 0 (chain_of b first)
-
-module _ (b : List ℕ) (passes : ℕ → ℕ → Bool) (n first place k : ℕ) (l : Looking b passes n first place k) where
-  abbrev next : ℕ → ℕ
-  next j = next_index (row b j)
-
-  here : place < n → (k ≡ 0 → ⊥) → k ≤ n
-      → first_at passes 0 (chain_of b first) ≡ cond (passes place k) (Some k) (first_at passes (suc place) (chain next n (n - (place + 1)) (next k)))
-  here room some low =
-      sym l.left_gives ∙ ap (λ m. first_at passes place (chain next n m k)) (one_less n place room)
-      ∙ ap (first_at passes place) (chain_on next n (n - (place + 1)) k some low)
-
-  pub looking_found : place < n → (k ≡ 0 → ⊥) → k ≤ n → passes place k ≡ true → Some k ≡ first_at passes 0 (chain_of b first)
-  looking_found room some low holds =
-      sym (here room some low ∙ ap (λ t. cond t (Some k) (first_at passes (suc place) (chain next n (n - (place + 1)) (next k)))) holds)
-
-  pub looking_more : (j : ℕ) → place < n → (k ≡ 0 → ⊥) → k ≤ n → passes place k ≡ false → j ≡ next k → Looking b passes n first (place + 1) j
-  looking_more j room some low fails e =
-      let z : place + 1 ≡ suc place = omega arith in
-      record {
-        whole = l.whole;
-        within = omega arith;
-        left_gives = ap (λ i. first_at passes i (chain next n (n - (place + 1)) j)) z ∙ ap (λ i. first_at passes (suc place) (chain next n (n - (place + 1)) i)) e
-            ∙ sym (here room some low ∙ ap (λ t. cond t (Some k) (first_at passes (suc place) (chain next n (n - (place + 1)) (next k)))) fails);
-      }
-
-  pub looking_none : chain next n (n - place) k ≡ [] → None ≡ first_at passes 0 (chain_of b first)
-  looking_none e = sym (ap (first_at passes place) e) ∙ l.left_gives
-
-pub looking_start : (b : List ℕ) (passes : ℕ → ℕ → Bool) (n first : ℕ) → n ≡ whole_records b → Looking b passes n first 0 first
-looking_start b passes n first e =
-    let z : n - 0 ≡ n = omega arith in
-    record {
-      whole = e;
-      within = omega arith;
-      left_gives = ap (λ m. first_at passes 0 (chain (λ j. next_index (row b j)) n m first)) z ∙ ap (λ m. first_at passes 0 (chain (λ j. next_index (row b j)) m m first)) e;
-    }
+pub found_first : (passes : ℕ → ℕ → Bool) (i : ℕ) (ks : List ℕ) → option_map (λ p. p.1) (find (λ p. passes p.0 p.1) (enumerate_from i ks)) ≡ first_at passes i ks
+found_first passes i [] = refl
+found_first passes i (k ∷ ks) = go (passes i k) (ap (λ j. option_map (λ p. p.1) (find (λ p. passes p.0 p.1) (enumerate_from j ks))) (omega arith) ∙ found_first passes (suc i) ks)
+  where
+    go : (t : Bool) → option_map (λ p. p.1) (find (λ p. passes p.0 p.1) (enumerate_from (i + 1) ks)) ≡ first_at passes (suc i) ks
+        → option_map (λ p. p.1) (cond t (Some (i, k)) (find (λ p. passes p.0 p.1) (enumerate_from (i + 1) ks))) ≡ cond t (Some k) (first_at passes (suc i) ks)
+    go true rec = refl
+    go false rec = rec
 
 -- the first of a list that fits, told by the records that the list is read from
 pub first_read : {X : Type 0} (fits : X → Bool) (goal : X → ℕ) (read : ℕ → X) (i : ℕ) (ks : List ℕ)

@@ -1,12 +1,13 @@
 -- What is read from tables that were filled.
-use Rattle.std.proofs.Common.{◌≡◌, ℕ, zero, suc, ◌+◌, ◌<◌, ◌≤◌, Bool, true, false, cond, eqb, List, [], ◌∷◌, ◌++◌, length, get_or, take, set, sym, refl, ap, ◌∙◌, subst, arith, length-append}
+use Rattle.std.proofs.Common.{◌≡◌, ℕ, zero, suc, ◌+◌, ◌<◌, ◌≤◌, Bool, true, false, cond, eqb, List, [], ◌∷◌, ◌++◌, map, length, get_or, take, set, sym, refl, ap, ◌∙◌, subst, arith, length-append}
 use Rattle.std.specs.List.{flat_map, AllByRecursion}
-use Rattle.std.proofs.lemmas.List.{get_or-set_same, get_or-set_other, length-set}
+use Rattle.std.proofs.lemmas.List.{get_or-set_same, get_or-set_other, length-set, map-set}
 use Rattle.std.proofs.lemmas.Bool.{eqb-true}
 use Rattle.links.specs.Queues.{Distinct}
 use Rattle.visits.specs.Visits.{phases}
 use Rattle.semantics.specs.Books.{place_in}
-use Rattle.places.specs.Tables.{listed, placed, all_listed, all_placed, all_starts}
+use Rattle.places.specs.declared.table.StationRow.{StationRow}
+use Rattle.places.specs.Tables.{listed, placed, all_listed, all_placed, all_starts, counts_in, row_for, all_rows}
 
 -- a list put into a table: what is before it stays
 listed_before : (t : List ℕ) (u : ℕ) (ks : List ℕ) (j : ℕ) → j < u → get_or (listed t u ks) j 0 ≡ get_or t j 0
@@ -70,6 +71,29 @@ module _ (b : List ℕ) where
       let long = length-set t k u in
       let w : u + length p + start_of b ss i ≡ u + length (p ++ flat_map (phases b) (take i ss)) = omega arith in
       all_starts_at (set t k u) (suc k) (u + length p) ss i n (omega arith) (omega arith) (omega arith) ∙ w
+
+-- the columns of the rows: the stations' records, the slots at which their phases begin, and how many they are
+module _ (b : List ℕ) where
+  pub numbers_are : (t : List StationRow) (i u : ℕ) (ss : List ℕ) → map (λ r. r.number) (all_rows b t i u ss) ≡ listed (map (λ r. r.number) t) i ss
+  numbers_are t i u [] = refl
+  numbers_are t i u (s ∷ ss) =
+      numbers_are (set t i (row_for b u s)) (suc i) (u + length (phases b s)) ss ∙ ap (λ c. listed c (suc i) ss) (map-set (λ r. r.number) t i (row_for b u s))
+
+  pub starts_are : (t : List StationRow) (i u : ℕ) (ss : List ℕ) → map (λ r. r.start) (all_rows b t i u ss) ≡ all_starts b (map (λ r. r.start) t) i u ss
+  starts_are t i u [] = refl
+  starts_are t i u (s ∷ ss) =
+      starts_are (set t i (row_for b u s)) (suc i) (u + length (phases b s)) ss
+      ∙ ap (λ c. all_starts b c (suc i) (u + length (phases b s)) ss) (map-set (λ r. r.start) t i (row_for b u s))
+
+  pub counts_are : (t : List StationRow) (i u : ℕ) (ss : List ℕ) → map (λ r. r.count) (all_rows b t i u ss) ≡ listed (map (λ r. r.count) t) i (counts_in b ss)
+  counts_are t i u [] = refl
+  counts_are t i u (s ∷ ss) =
+      counts_are (set t i (row_for b u s)) (suc i) (u + length (phases b s)) ss
+      ∙ ap (λ c. listed c (suc i) (counts_in b ss)) (map-set (λ r. r.count) t i (row_for b u s))
+
+  pub length_rows : (t : List StationRow) (i u : ℕ) (ss : List ℕ) → length (all_rows b t i u ss) ≡ length t
+  length_rows t i u [] = refl
+  length_rows t i u (s ∷ ss) = length_rows (set t i (row_for b u s)) (suc i) (u + length (phases b s)) ss ∙ length-set t i (row_for b u s)
 
 -- a number that is not in a list
 abbrev ApartFrom : ℕ → List ℕ → Type 0

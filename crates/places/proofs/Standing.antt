@@ -1,5 +1,5 @@
 -- The tables stand for the book.
-use Rattle.std.proofs.Common.{◌≡◌, ℕ, zero, suc, ◌+◌, ◌<◌, ◌≤◌, Bool, true, false, cond, ltb, List, [], ◌∷◌, length, get_or, take, replicate, Some, sym, refl, ap, ◌∙◌, subst, arith, length-append}
+use Rattle.std.proofs.Common.{◌≡◌, ℕ, zero, suc, ◌+◌, ◌<◌, ◌≤◌, Bool, true, false, cond, ltb, List, [], ◌∷◌, map, length, get_or, take, replicate, Some, sym, refl, ap, ◌∙◌, subst, arith, length-append}
 use Rattle.std.specs.Bool.{then_some}
 use Rattle.std.specs.List.{flat_map, AllByRecursion}
 use Rattle.std.proofs.lemmas.List.{get_or-map, length-map, take_all}
@@ -15,9 +15,10 @@ use Rattle.visits.specs.Visits.{stations, phases}
 use Rattle.semantics.specs.Books.{place_in}
 use Rattle.tree_records.specs.TreeRecords.{stations_in, phases_in, of_phase, of_station, paths_in, TreeOf}
 use Rattle.tree_records.proofs.TreeRecords.{trees_have_different_records}
-use Rattle.places.specs.Tables.{places_along, station_in, phase_in, place_of, counts_in}
+use Rattle.places.specs.declared.table.StationRow.{StationRow}
+use Rattle.places.specs.Tables.{places_along, no_row, row_in, station_in, phase_in, place_of, counts_in}
 use Rattle.places.specs.Standing.{station_of, phases_of, PlacesStand}
-use Rattle.places.proofs.Reading.{listed_at, all_listed_at, all_starts_at, all_placed_at, start_of, place_all, all_left, all_right}
+use Rattle.places.proofs.Reading.{listed_at, all_listed_at, all_starts_at, numbers_are, starts_are, counts_are, length_rows, all_placed_at, start_of, place_all, all_left, all_right}
 
 -- a sound book is no longer than any book
 pub few_whole : (b : List ℕ) (kind : BookKind) → Sound b kind → (whole_records b ≡ told_records b) × (told_records b ≤ 2000)
@@ -57,28 +58,42 @@ module _ (b : List ℕ) (kind : BookKind) where
 
 -- the tables of these stations
 module _ (b ss : List ℕ) (few : length ss ≤ 16) where
-  station_along : (i : ℕ) → i < length ss → station_in (places_along b ss) i ≡ get_or ss i 0
-  station_along i h = listed_at (replicate 16 0) 0 ss i i (omega arith) h (omega arith)
+  abbrev rows : List StationRow
+  rows = (places_along b ss).rows
 
-  count_along : (i : ℕ) → i < length ss → get_or (places_along b ss).counts i 0 ≡ length (phases b (get_or ss i 0))
+  -- what a column has at place i
+  column : (what : StationRow → ℕ) (i : ℕ) → i < length ss → what (row_in (places_along b ss) i) ≡ get_or (map what rows) i 0
+  column what i h =
+      let long : length rows ≡ 16 = length_rows b (replicate 16 no_row) 0 0 ss in
+      sym (get_or-map what rows i no_row 0 (omega arith))
+
+  station_along : (i : ℕ) → i < length ss → station_in (places_along b ss) i ≡ get_or ss i 0
+  station_along i h =
+      column (λ r. r.number) i h ∙ ap (λ c. get_or c i 0) (numbers_are b (replicate 16 no_row) 0 0 ss)
+      ∙ listed_at (replicate 16 0) 0 ss i i (omega arith) h (omega arith)
+
+  count_along : (i : ℕ) → i < length ss → (row_in (places_along b ss) i).count ≡ length (phases b (get_or ss i 0))
   count_along i h =
       let long : length (counts_in b ss) ≡ length ss = length-map ss (λ s. length (phases b s)) in
-      listed_at (replicate 16 0) 0 (counts_in b ss) i i (omega arith) (omega arith) (omega arith) ∙ get_or-map (λ s. length (phases b s)) ss i 0 0 h
+      column (λ r. r.count) i h ∙ ap (λ c. get_or c i 0) (counts_are b (replicate 16 no_row) 0 0 ss)
+      ∙ listed_at (replicate 16 0) 0 (counts_in b ss) i i (omega arith) (omega arith) (omega arith) ∙ get_or-map (λ s. length (phases b s)) ss i 0 0 h
 
   phase_along : length (flat_map (phases b) ss) ≤ 2000 → (i j : ℕ) → i < length ss
       → phase_in (places_along b ss) i j ≡ then_some (ltb j (length (phases b (get_or ss i 0)))) (get_or (phases b (get_or ss i 0)) j 0)
   phase_along room i j h =
-      let slot = get_or (places_along b ss).starts i 0 + j in
+      let slot = (row_in (places_along b ss) i).start + j in
       ap (λ n. then_some (ltb j n) (get_or (places_along b ss).records slot 0)) (count_along i h) ∙ go (ltb j (length (phases b (get_or ss i 0)))) refl
     where
-      start : get_or (places_along b ss).starts i 0 ≡ 0 + start_of b ss i
-      start = all_starts_at b (replicate 16 0) 0 0 ss i i (omega arith) h (omega arith)
+      start : (row_in (places_along b ss) i).start ≡ 0 + start_of b ss i
+      start =
+          column (λ r. r.start) i h ∙ ap (λ c. get_or c i 0) (starts_are b (replicate 16 no_row) 0 0 ss)
+          ∙ all_starts_at b (replicate 16 0) 0 0 ss i i (omega arith) h (omega arith)
 
       go : (t : Bool) → ltb j (length (phases b (get_or ss i 0))) ≡ t
-          → then_some t (get_or (places_along b ss).records (get_or (places_along b ss).starts i 0 + j) 0) ≡ then_some t (get_or (phases b (get_or ss i 0)) j 0)
+          → then_some t (get_or (places_along b ss).records ((row_in (places_along b ss) i).start + j) 0) ≡ then_some t (get_or (phases b (get_or ss i 0)) j 0)
       go false e = refl
       go true e =
-          ap Some (all_listed_at b (replicate 2000 0) 0 ss i j (get_or (places_along b ss).starts i 0 + j) (ap (λ n. n + j) start) h (ltb-true j _ e) (omega arith))
+          ap Some (all_listed_at b (replicate 2000 0) 0 ss i j ((row_in (places_along b ss) i).start + j) (ap (λ n. n + j) start) h (ltb-true j _ e) (omega arith))
 
 pub places_stand : PlacesStand
 places_stand b kind sound few = record {

@@ -8,8 +8,6 @@ pub mod search;
 pub mod table;
 
 // The tables stand for every book of sound structure with at most 16 stations.
-pub fn places_stand() -> u8
+pub fn places_stand()
     ensures { PlacesStand }
-{
-    0
-}
+{}

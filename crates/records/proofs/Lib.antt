@@ -1,4 +1,3 @@
-pub mod Decoded
 pub mod Same
 pub mod Numbers
 pub mod Windows

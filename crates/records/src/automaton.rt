@@ -1,58 +1,61 @@
 // The records of an automaton book.
 ghost use Rattle.std.specs.Prelude.{◌≡◌, ℕ, List, Option};
 ghost use Rattle.book.specs.declared.term.BookKind.TheVariants.{Automaton as automata};
-ghost use Rattle.records.specs.Automaton.{automaton_in, bound_in, location_in, location_laid, label_in, label_laid, transition_in, transition_laid, automaton_rows_laid, automaton_body, bound_ticks, label_byte, label_port, label_lowest, label_highest, automaton_marks, decoded_automaton, encoded_automaton};
+ghost use Rattle.records.specs.Automaton.{automaton_in, automaton_laid, bound_in, location_in, location_laid, label_in, label_laid, transition_in, transition_laid, automaton_body, label_byte, label_port, label_lowest, label_highest, automaton_marks, encoded_automaton};
 ghost use Rattle.std.proofs.Common.{rules};
 
 use super::fields::{
-    high_or, is_path_laid, is_window_laid, marks_of, path_in, path_row, window_by,
+    high_or, is_marked, is_path_laid, is_window_laid, marks_of, path_in, path_row, window_by,
 };
 use super::rows::Rows;
-use book::bytes::{are_zero, byte_at, eight_at, four_at, take_apart, two_at};
+use book::bytes::{Parts, are_zero, byte_at, eight_at, four_at, two_at};
 use book::record::{Automaton, AutomatonBody, Label, Location, Record, Transition};
-use book::term::BookKind;
+use book::term::{BookKind, Kind};
 
-fn automaton_in(rest: &[u8]) -> Automaton
-    ensures { result ≡ automaton_in rest.now }
+pub fn automaton_in(parts: &Parts<'_>) -> Automaton
+    ensures { result ≡ automaton_in parts.now.rest.now }
 {
     Automaton {
-        first_location: two_at(rest, 0),
-        opening: two_at(rest, 2),
-        scale: four_at(rest, 4),
+        first_location: two_at(parts.rest, 0),
+        opening: two_at(parts.rest, 2),
+        scale: four_at(parts.rest, 4),
     }
 }
 
-fn bound_in(marks: u8, rest: &[u8]) -> Option<u64>
-    ensures { result ≡ bound_in marks rest.now }
+fn bound_in(parts: &Parts<'_>) -> Option<u64>
+    ensures { result ≡ bound_in parts.now.marks parts.now.rest.now }
 {
-    if marks / 2 % 2 == 1 {
-        Some(eight_at(rest, 8))
-    } else {
-        None
-    }
+    is_marked(parts.marks, 2).then(|| eight_at(parts.rest, 8))
 }
 
-fn location_in(marks: u8, rest: &[u8]) -> Location
-    ensures { result ≡ location_in marks rest.now }
+pub fn location_in(parts: &Parts<'_>) -> Location
+    ensures { result ≡ location_in parts.now.marks parts.now.rest.now }
 {
     Location {
-        first_transition: two_at(rest, 0),
-        phase: two_at(rest, 2),
-        sent: byte_at(rest, 4),
-        committed: marks % 2 == 1,
-        bound: bound_in(marks, rest),
+        first_transition: two_at(parts.rest, 0),
+        phase: two_at(parts.rest, 2),
+        sent: byte_at(parts.rest, 4),
+        committed: is_marked(parts.marks, 1),
+        bound: bound_in(parts),
     }
 }
 
-fn is_location_laid(marks: u8, rest: &[u8]) -> bool
-    ensures { result ≡ location_laid marks rest.now }
+fn is_automaton_laid(parts: &Parts<'_>) -> bool
+    ensures { result ≡ automaton_laid parts.now.marks parts.now.rest.now }
 {
-    marks <= 3
-        && (marks / 2 % 2 == 1 || are_zero(rest, 8, 16))
-        && are_zero(rest, 5, 8)
-        && are_zero(rest, 16, 28)
+    parts.marks == 0 && are_zero(parts.rest, 8, 28)
 }
 
+fn is_location_laid(parts: &Parts<'_>) -> bool
+    ensures { result ≡ location_laid parts.now.marks parts.now.rest.now }
+{
+    parts.marks <= 3
+        && (is_marked(parts.marks, 2) || are_zero(parts.rest, 8, 16))
+        && are_zero(parts.rest, 5, 8)
+        && are_zero(parts.rest, 16, 28)
+}
+
+// The label: byte 6 of a transition is 0 where it is silent, 1 where it hears, and 2 where it sends.
 fn label_in(rest: &[u8]) -> Label
     ensures { result ≡ label_in rest.now }
 {
@@ -83,53 +86,26 @@ fn is_label_laid(rest: &[u8]) -> bool
     }
 }
 
-fn transition_in(marks: u8, rest: &[u8]) -> Transition
-    ensures { result ≡ transition_in marks rest.now }
+pub fn transition_in(parts: &Parts<'_>) -> Transition
+    ensures { result ≡ transition_in parts.now.marks parts.now.rest.now }
 {
+    let rest = parts.rest;
     Transition {
         goal: two_at(rest, 0),
         label: label_in(rest),
         resets: byte_at(rest, 6) == 1,
-        guard: window_by(marks, eight_at(rest, 8), eight_at(rest, 16)),
+        guard: window_by(parts.marks, eight_at(rest, 8), eight_at(rest, 16)),
     }
 }
 
-fn is_transition_laid(marks: u8, rest: &[u8]) -> bool
-    ensures { result ≡ transition_laid marks rest.now }
+fn is_transition_laid(parts: &Parts<'_>) -> bool
+    ensures { result ≡ transition_laid parts.now.marks parts.now.rest.now }
 {
-    is_window_laid(marks, are_zero(rest, 16, 24))
-        && is_label_laid(rest)
-        && byte_at(rest, 6) <= 1
-        && are_zero(rest, 7, 8)
-        && are_zero(rest, 24, 28)
-}
-
-// Whether a record of that kind is laid out as it should be.
-fn is_laid(kind: u8, marks: u8, rest: &[u8]) -> bool
-    ensures { result ≡ automaton_rows_laid kind marks rest.now }
-{
-    match kind {
-        1 => marks == 0 && are_zero(rest, 8, 28),
-        2 => is_location_laid(marks, rest),
-        3 => is_transition_laid(marks, rest),
-        5 => is_path_laid(marks, rest),
-        _ => false,
-    }
-}
-
-// What a record holds, by its kind; nothing where the layout does not hold.
-fn body_in(kind: u8, marks: u8, rest: &[u8]) -> Option<AutomatonBody>
-    ensures { result ≡ automaton_body kind marks rest.now }
-{
-    if !is_laid(kind, marks, rest) {
-        return None;
-    }
-    match kind {
-        1 => Some(AutomatonBody::Automaton(automaton_in(rest))),
-        2 => Some(AutomatonBody::Location(location_in(marks, rest))),
-        3 => Some(AutomatonBody::Transition(transition_in(marks, rest))),
-        _ => Some(AutomatonBody::Path(path_in(rest))),
-    }
+    is_window_laid(parts.marks, are_zero(parts.rest, 16, 24))
+        && is_label_laid(parts.rest)
+        && byte_at(parts.rest, 6) <= 1
+        && are_zero(parts.rest, 7, 8)
+        && are_zero(parts.rest, 24, 28)
 }
 
 fn automaton_row(next: u16, automaton: Automaton) -> [u8; 32]
@@ -140,7 +116,7 @@ fn automaton_row(next: u16, automaton: Automaton) -> [u8; 32]
     let [o0, o1] = automaton.opening.to_be_bytes();
     let [s0, s1, s2, s3] = automaton.scale.to_be_bytes();
     row![
-        1, 0, n0, n1, l0, l1, o0, o1;
+        u8::from(Kind::Station), 0, n0, n1, l0, l1, o0, o1;
         s0, s1, s2, s3, 0, 0, 0, 0;
         0, 0, 0, 0, 0, 0, 0, 0;
         0, 0, 0, 0, 0, 0, 0, 0
@@ -150,24 +126,7 @@ fn automaton_row(next: u16, automaton: Automaton) -> [u8; 32]
 fn location_marks(location: Location) -> u8
     ensures { result ≡ automaton_marks (AutomatonBody.Location location) }
 {
-    let bounded = match location.bound {
-        Some(_) => 2,
-        None => 0,
-    };
-    if location.committed {
-        1 + bounded
-    } else {
-        bounded
-    }
-}
-
-fn ticks_of(bound: Option<u64>) -> u64
-    ensures { result ≡ bound_ticks bound }
-{
-    match bound {
-        Some(ticks) => ticks,
-        None => 0,
-    }
+    u8::from(location.committed) + 2 * u8::from(location.bound.is_some())
 }
 
 fn location_row(next: u16, location: Location) -> [u8; 32]
@@ -177,9 +136,9 @@ fn location_row(next: u16, location: Location) -> [u8; 32]
     let [n0, n1] = next.to_be_bytes();
     let [t0, t1] = location.first_transition.to_be_bytes();
     let [p0, p1] = location.phase.to_be_bytes();
-    let [b0, b1, b2, b3, b4, b5, b6, b7] = ticks_of(location.bound).to_be_bytes();
+    let [b0, b1, b2, b3, b4, b5, b6, b7] = location.bound.unwrap_or(0).to_be_bytes();
     row![
-        2, marks, n0, n1, t0, t1, p0, p1;
+        u8::from(Kind::Phase), marks, n0, n1, t0, t1, p0, p1;
         location.sent, 0, 0, 0, b0, b1, b2, b3;
         b4, b5, b6, b7, 0, 0, 0, 0;
         0, 0, 0, 0, 0, 0, 0, 0
@@ -212,7 +171,7 @@ fn transition_row(next: u16, transition: Transition) -> [u8; 32]
     let [a0, a1, a2, a3, a4, a5, a6, a7] = transition.guard.low.to_be_bytes();
     let [b0, b1, b2, b3, b4, b5, b6, b7] = high_or(0, transition.guard.high).to_be_bytes();
     row![
-        3, marks, n0, n1, g0, g1, label, port;
+        u8::from(Kind::Edge), marks, n0, n1, g0, g1, label, port;
         low, high, resets, 0, a0, a1, a2, a3;
         a4, a5, a6, a7, b0, b1, b2, b3;
         b4, b5, b6, b7, 0, 0, 0, 0
@@ -222,7 +181,7 @@ fn transition_row(next: u16, transition: Transition) -> [u8; 32]
 impl Rows for AutomatonBody {
     ghost kind = { automata };
 
-    ghost decoded = { decoded_automaton };
+    ghost body = { automaton_body };
 
     ghost encoded = { encoded_automaton };
 
@@ -232,18 +191,19 @@ impl Rows for AutomatonBody {
         BookKind::Automaton
     }
 
-    fn decode(bytes: &[u8]) -> Option<Record<AutomatonBody>>
-        ensures { result ≡ decoded_automaton bytes.now }
-    {
-        let Some(parts) = take_apart(bytes) else {
-            return None;
-        };
-        match body_in(parts.kind, parts.marks, parts.rest) {
-            Some(body) => Some(Record {
-                next: parts.next,
-                body,
-            }),
-            None => None,
+    fn body_in(parts: &Parts<'_>) -> Option<AutomatonBody> {
+        match Kind::try_from(parts.kind).ok()? {
+            Kind::Station => {
+                is_automaton_laid(parts).then_some(AutomatonBody::Automaton(automaton_in(parts)))
+            }
+            Kind::Phase => is_location_laid(parts).then_some(AutomatonBody::Location(location_in(
+                parts,
+            ))),
+            Kind::Edge => {
+                is_transition_laid(parts).then_some(AutomatonBody::Transition(transition_in(parts)))
+            }
+            Kind::Word => None,
+            Kind::Path => is_path_laid(parts).then_some(AutomatonBody::Path(path_in(parts))),
         }
     }
 

@@ -1,5 +1,6 @@
 // Books: written into a lent buffer, and read record by record.
 ghost use Rattle.std.specs.Prelude.{◌≡◌, ℕ, ◌+◌, ◌*◌, ◌<◌, ◌≤◌, Bool, List, ◌++◌, length, drop, is_ok, if◌then◌else◌};
+ghost use Rattle.records.specs.Fields.{decoded_by};
 ghost use Rattle.records.specs.Books.{head_bytes, rows, book_bytes, record_of, write_answer, put_row, put_rows};
 
 use super::rows::Rows;
@@ -15,7 +16,7 @@ fn head_row(kind: BookKind, n: u16, head: Head) -> [u8; 32]
     let [s0, s1] = head.first_station.to_be_bytes();
     let [p0, p1] = head.first_path.to_be_bytes();
     row![
-        kind.byte(), 1, n0, n1, head.order.byte(), 0, s0, s1;
+        u8::from(kind), 1, n0, n1, u8::from(head.order), 0, s0, s1;
         p0, p1, 0, 0, 0, 0, 0, 0;
         0, 0, 0, 0, 0, 0, 0, 0;
         0, 0, 0, 0, 0, 0, 0, 0
@@ -24,23 +25,13 @@ fn head_row(kind: BookKind, n: u16, head: Head) -> [u8; 32]
 
 // Record k of a book, where it lies.
 pub fn read<B: Rows>(book: &[u8], k: u16) -> Result<Record<B>, Refusal>
-    ensures { result ≡ record_of B.Rows.decoded book.now k }
+    ensures { result ≡ record_of (decoded_by B.Rows.body) book.now k }
 {
     let place = usize::from(k);
-    let none = k == 0 || k > two_at(book, 2) || 32 * place + 32 > book.len();
-    if none {
-        return Err(Refusal {
-            fault: Fault::Links,
-            place,
-        });
+    if k == 0 || k > two_at(book, 2) || 32 * place + 32 > book.len() {
+        return Err(Fault::Links.at(place));
     }
-    match B::decode(row_of(book, k)) {
-        Some(item) => Ok(item),
-        None => Err(Refusal {
-            fault: Fault::Layout,
-            place,
-        }),
-    }
+    B::decode(row_of(book, k)).ok_or(Fault::Layout.at(place))
 }
 
 fn put_row(out: &mut [u8], k: usize, row: &[u8])
@@ -72,17 +63,11 @@ pub fn write<B: Rows>(head: Head, records: &[Record<B>], out: &mut [u8]) -> Resu
     let n = records.len();
     let limit = kind.most_records();
     if n == 0 || n > usize::from(limit) {
-        return Err(Refusal {
-            fault: Fault::Head,
-            place: 0,
-        });
+        return Err(Fault::Head.at(0));
     }
     let size = 32 * (n + 1);
     if out.len() < size {
-        return Err(Refusal {
-            fault: Fault::Room,
-            place: 0,
-        });
+        return Err(Fault::Room.at(0));
     }
     put_row(out, 0, &head_row(kind, n as u16, head));
     put_rows(records, out);

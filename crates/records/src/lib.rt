@@ -11,6 +11,7 @@ macro_rules! row {
 
 pub mod automaton;
 pub mod books;
-mod fields;
+pub mod fields;
+pub mod heads;
 pub mod model;
 pub mod rows;

@@ -1,109 +1,91 @@
 // The records of a model book.
-ghost use Rattle.std.specs.Prelude.{◌≡◌, ℕ, List, length, Option};
+ghost use Rattle.std.specs.Prelude.{◌≡◌, ℕ, ◌+◌, ◌<◌, ◌&&◌, List, length, Option, ◌==◌};
+ghost use Rattle.book.specs.Bytes.{zeros};
+ghost use Rattle.records.specs.Fields.{fraction_in};
 ghost use Rattle.book.specs.declared.term.BookKind.TheVariants.{Model};
-ghost use Rattle.records.specs.Model.{station_in, station_laid, phase_in, phase_laid, edge_in, edge_laid, word_in, word_laid, model_laid, model_body, decoded_model, encoded_model};
+ghost use Rattle.records.specs.Model.{station_in, phase_in, phase_laid, edge_in, edge_laid, word_in, model_body, encoded_model};
 ghost use Rattle.std.proofs.Common.{rules};
 
 use super::fields::{
     high_or, is_path_laid, is_window_laid, marks_of, path_in, path_row, window_by,
 };
 use super::rows::Rows;
-use book::bytes::{Parts, are_zero, byte_at, four_at, take_apart, two_at};
+use book::bytes::{Parts, are_zero, byte_at, four_at, two_at};
 use book::record::{Edge, Fraction, ModelBody, Phase, Record, Station, Word};
-use book::term::{BookKind, Path};
+use book::term::{BookKind, Kind};
 
-fn station_in(rest: &[u8]) -> Station
-    ensures { result ≡ station_in rest.now }
+// A fraction in eight bytes from i on.
+fn fraction_at(rest: &[u8], i: u8) -> Fraction
+    requires { i < 200 }
+    ensures { result ≡ fraction_in rest.now (i + 4) }
+{
+    Fraction {
+        numerator: four_at(rest, i),
+        denominator: four_at(rest, i + 4),
+    }
+}
+
+pub fn station_in(parts: &Parts<'_>) -> Station
+    ensures { result ≡ station_in parts.now.rest.now }
 {
     Station {
-        first_phase: two_at(rest, 0),
-        opening: two_at(rest, 2),
+        first_phase: two_at(parts.rest, 0),
+        opening: two_at(parts.rest, 2),
     }
 }
 
-fn phase_in(rest: &[u8]) -> Phase
-    ensures { result ≡ phase_in rest.now }
+pub fn phase_in(parts: &Parts<'_>) -> Phase
+    ensures { result ≡ phase_in parts.now.rest.now }
 {
     Phase {
-        first_edge: two_at(rest, 0),
-        next_phase: two_at(rest, 2),
-        first_word: two_at(rest, 4),
-        lifetime: Fraction {
-            numerator: four_at(rest, 8),
-            denominator: four_at(rest, 12),
-        },
+        first_edge: two_at(parts.rest, 0),
+        next_phase: two_at(parts.rest, 2),
+        first_word: two_at(parts.rest, 4),
+        lifetime: fraction_at(parts.rest, 8),
     }
 }
 
-fn edge_in(marks: u8, rest: &[u8]) -> Edge
-    ensures { result ≡ edge_in marks rest.now }
+pub fn edge_in(parts: &Parts<'_>) -> Edge
+    ensures { result ≡ edge_in parts.now.marks parts.now.rest.now }
 {
-    let low = Fraction {
-        numerator: four_at(rest, 8),
-        denominator: four_at(rest, 12),
-    };
-    let high = Fraction {
-        numerator: four_at(rest, 16),
-        denominator: four_at(rest, 20),
-    };
+    let rest = parts.rest;
     Edge {
         goal: two_at(rest, 0),
         port: byte_at(rest, 2),
         lowest: byte_at(rest, 3),
         highest: byte_at(rest, 4),
-        window: window_by(marks, low, high),
+        window: window_by(parts.marks, fraction_at(rest, 8), fraction_at(rest, 16)),
     }
 }
 
-fn word_in(rest: &[u8]) -> Word
-    ensures { result ≡ word_in rest.now }
+pub fn word_in(parts: &Parts<'_>) -> Word
+    ensures { result ≡ word_in parts.now.rest.now }
 {
     Word {
-        port: byte_at(rest, 0),
-        value: byte_at(rest, 1),
+        port: byte_at(parts.rest, 0),
+        value: byte_at(parts.rest, 1),
     }
 }
 
-fn is_phase_laid(marks: u8, rest: &[u8]) -> bool
-    ensures { result ≡ phase_laid marks rest.now }
+// Whether there are no marks, and nothing in the bytes from i on.
+fn is_blank_from(parts: &Parts<'_>, i: usize) -> bool
+    ensures { result ≡ (parts.now.marks == 0 && zeros parts.now.rest.now i 28) }
 {
-    marks == 0 && are_zero(rest, 6, 8) && are_zero(rest, 16, 28)
+    parts.marks == 0 && are_zero(parts.rest, i, 28)
 }
 
-fn is_edge_laid(marks: u8, rest: &[u8]) -> bool
-    ensures { result ≡ edge_laid marks rest.now }
+fn is_phase_laid(parts: &Parts<'_>) -> bool
+    ensures { result ≡ phase_laid parts.now.marks parts.now.rest.now }
 {
-    is_window_laid(marks, are_zero(rest, 16, 24)) && are_zero(rest, 5, 8) && are_zero(rest, 24, 28)
+    parts.marks == 0 && are_zero(parts.rest, 6, 8) && are_zero(parts.rest, 16, 28)
 }
 
-// Whether a record of that kind is laid out as it should be.
-fn is_laid(kind: u8, marks: u8, rest: &[u8]) -> bool
-    ensures { result ≡ model_laid kind marks rest.now }
+fn is_edge_laid(parts: &Parts<'_>) -> bool
+    ensures { result ≡ edge_laid parts.now.marks parts.now.rest.now }
 {
-    match kind {
-        1 => marks == 0 && are_zero(rest, 4, 28),
-        2 => is_phase_laid(marks, rest),
-        3 => is_edge_laid(marks, rest),
-        4 => marks == 0 && are_zero(rest, 2, 28),
-        5 => is_path_laid(marks, rest),
-        _ => false,
-    }
-}
-
-// What a record holds, by its kind; nothing where the layout does not hold.
-fn body_in(kind: u8, marks: u8, rest: &[u8]) -> Option<ModelBody>
-    ensures { result ≡ model_body kind marks rest.now }
-{
-    if !is_laid(kind, marks, rest) {
-        return None;
-    }
-    match kind {
-        1 => Some(ModelBody::Station(station_in(rest))),
-        2 => Some(ModelBody::Phase(phase_in(rest))),
-        3 => Some(ModelBody::Edge(edge_in(marks, rest))),
-        4 => Some(ModelBody::Word(word_in(rest))),
-        _ => Some(ModelBody::Path(path_in(rest))),
-    }
+    is_window_laid(parts.marks, are_zero(parts.rest, 16, 24))
+        && are_zero(parts.rest, 5, 8)
+        && are_zero(parts.rest, 24, 28)
 }
 
 fn station_row(next: u16, station: Station) -> [u8; 32]
@@ -113,7 +95,7 @@ fn station_row(next: u16, station: Station) -> [u8; 32]
     let [p0, p1] = station.first_phase.to_be_bytes();
     let [o0, o1] = station.opening.to_be_bytes();
     row![
-        1, 0, n0, n1, p0, p1, o0, o1;
+        u8::from(Kind::Station), 0, n0, n1, p0, p1, o0, o1;
         0, 0, 0, 0, 0, 0, 0, 0;
         0, 0, 0, 0, 0, 0, 0, 0;
         0, 0, 0, 0, 0, 0, 0, 0
@@ -130,7 +112,7 @@ fn phase_row(next: u16, phase: Phase) -> [u8; 32]
     let [u0, u1, u2, u3] = phase.lifetime.numerator.to_be_bytes();
     let [d0, d1, d2, d3] = phase.lifetime.denominator.to_be_bytes();
     row![
-        2, 0, n0, n1, e0, e1, p0, p1;
+        u8::from(Kind::Phase), 0, n0, n1, e0, e1, p0, p1;
         w0, w1, 0, 0, u0, u1, u2, u3;
         d0, d1, d2, d3, 0, 0, 0, 0;
         0, 0, 0, 0, 0, 0, 0, 0
@@ -154,7 +136,7 @@ fn edge_row(next: u16, edge: Edge) -> [u8; 32]
     let [d0, d1, d2, d3] = high.denominator.to_be_bytes();
     let marks = marks_of(edge.window);
     row![
-        3, marks, n0, n1, g0, g1, edge.port, edge.lowest;
+        u8::from(Kind::Edge), marks, n0, n1, g0, g1, edge.port, edge.lowest;
         edge.highest, 0, 0, 0, a0, a1, a2, a3;
         b0, b1, b2, b3, c0, c1, c2, c3;
         d0, d1, d2, d3, 0, 0, 0, 0
@@ -166,7 +148,7 @@ fn word_row(next: u16, word: Word) -> [u8; 32]
 {
     let [n0, n1] = next.to_be_bytes();
     row![
-        4, 0, n0, n1, word.port, word.value, 0, 0;
+        u8::from(Kind::Word), 0, n0, n1, word.port, word.value, 0, 0;
         0, 0, 0, 0, 0, 0, 0, 0;
         0, 0, 0, 0, 0, 0, 0, 0;
         0, 0, 0, 0, 0, 0, 0, 0
@@ -176,7 +158,7 @@ fn word_row(next: u16, word: Word) -> [u8; 32]
 impl Rows for ModelBody {
     ghost kind = { Model };
 
-    ghost decoded = { decoded_model };
+    ghost body = { model_body };
 
     ghost encoded = { encoded_model };
 
@@ -186,18 +168,15 @@ impl Rows for ModelBody {
         BookKind::Model
     }
 
-    fn decode(bytes: &[u8]) -> Option<Record<ModelBody>>
-        ensures { result ≡ decoded_model bytes.now }
-    {
-        let Some(parts) = take_apart(bytes) else {
-            return None;
-        };
-        match body_in(parts.kind, parts.marks, parts.rest) {
-            Some(body) => Some(Record {
-                next: parts.next,
-                body,
-            }),
-            None => None,
+    fn body_in(parts: &Parts<'_>) -> Option<ModelBody> {
+        match Kind::try_from(parts.kind).ok()? {
+            Kind::Station => is_blank_from(parts, 4).then_some(ModelBody::Station(station_in(
+                parts,
+            ))),
+            Kind::Phase => is_phase_laid(parts).then_some(ModelBody::Phase(phase_in(parts))),
+            Kind::Edge => is_edge_laid(parts).then_some(ModelBody::Edge(edge_in(parts))),
+            Kind::Word => is_blank_from(parts, 2).then_some(ModelBody::Word(word_in(parts))),
+            Kind::Path => is_path_laid(parts).then_some(ModelBody::Path(path_in(parts))),
         }
     }
 

@@ -4,3 +4,4 @@
 
 pub mod account;
 pub mod listing;
+mod told;

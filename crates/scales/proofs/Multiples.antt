@@ -2,6 +2,7 @@
 use Rattle.std.proofs.Common.{◌≡◌, ℕ, zero, suc, ◌*◌, ◌/◌, ◌%◌, ◌<◌, ◌≤◌, Bool, true, false, cond, leb, List, [], ◌∷◌, ◌++◌, Some, None, sym, refl, ap, ◌∙◌, subst, ap₂, mod-lt, mul_comm, mul-le-mul_left, mul-one, mul_right_comm, le_of_mul-le-mul_right, arith}
 use Prim.Native.Nat.{◌∣◌}
 use native.Mathlib.Nat.{dvd_refl, dvd-mul_left, dvd-mul_right, dvd-mod_iff, dvd_of_mod-eq-zero, dvd_of_mul-dvd-mul_left, mul-dvd-mul_left, mul-dvd-mul_right, le_of_dvd, pos_of_dvd_of_pos, mul-div_cancel', div-mul_cancel, one-le-mul, min-eq_right, max-eq_left}
+use Rattle.std.specs.List.{fold}
 use Rattle.std.proofs.lemmas.Bool.Decides.{nat_tests}
 use Rattle.semantics.specs.Scales.{first_multiple, lcm, lcm_all}
 use Rattle.semantics.proofs.Lcm.{least_common}
@@ -47,7 +48,7 @@ least_divides a b r c h l m = go (c % r) refl
 -- a common multiple, so it is no less than r
 module _ (a b g : ℕ) (pa : 1 ≤ a) (pb : 1 ≤ b) (h : Greatest a b g) where
   pub divisor_some : 1 ≤ g
-  divisor_some = pos_of_dvd_of_pos h.left pa
+  divisor_some = pos_of_dvd_of_pos h.0 pa
 
   by_divisor : (r : ℕ) → Least a b r → a / g * b ≡ r
   by_divisor r l =
@@ -57,10 +58,10 @@ module _ (a b g : ℕ) (pa : 1 ≤ a) (pb : 1 ≤ b) (h : Greatest a b g) where
       let in-a : a * b / r ∣ a =
       dvd_of_mul-dvd-mul_left (a * b / r) pb
       (subst (λ x. b * (a * b / r) ∣ x) (product ∙ mul_comm a b) (mul-dvd-mul_right b l.right (a * b / r))) in
-      let small : a * b / r ≤ g = le_of_dvd divisor_some (h.greatest (a * b / r) in-a in_b) in
+      let small : a * b / r ≤ g = le_of_dvd divisor_some (h.2 (a * b / r) in-a in_b) in
       let some-q : 1 ≤ a * b / r = pos_of_dvd_of_pos in-a pa in
-      let back : a / g * g ≡ a = div-mul_cancel g h.left in
-      let over-a : a ∣ a / g * b = subst (λ x. x ∣ a / g * b) back (mul-dvd-mul_left g (a / g) h.right) in
+      let back : a / g * g ≡ a = div-mul_cancel g h.0 in
+      let over-a : a ∣ a / g * b = subst (λ x. x ∣ a / g * b) back (mul-dvd-mul_left g (a / g) h.1) in
       let all : a / g * b * g ≡ a * b = mul_right_comm (a / g) b g ∙ ap (λ x. x * b) back in
       let some-part : 1 ≤ a / g = pos_of_dvd_of_pos {m = a / g} {n = a} (subst (λ x. a / g ∣ x) back (dvd-mul_right (a / g) g)) pa in
       let low : r ≤ a / g * b = l.least (a / g * b) (one-le-mul some-part pb) over-a (dvd-mul_left b (a / g)) in
@@ -98,6 +99,11 @@ grown_list : (s : ℕ) (ds : List ℕ) → grown_all (limited s) ds ≡ limited 
 grown_list s [] = refl
 grown_list s (d ∷ ds) = ap (λ x. grown_all x ds) (grown_one s d) ∙ grown_list (lcm s d) ds
 
+-- from the scale of no denominators on
+pub scale_by_fold : (ds : List ℕ) → fold grown (Some 1) ds ≡ limited (lcm_all 1 ds)
+scale_by_fold ds = grown_list 1 ds
+
+-- one more at the end, for a loop that goes along a list (crate making)
 pub lcm_all_push : (a : ℕ) (ds : List ℕ) (d : ℕ) → lcm_all a (ds ++ (d ∷ [])) ≡ lcm (lcm_all a ds) d
 lcm_all_push a [] d = refl
 lcm_all_push a (e ∷ ds) d = lcm_all_push (lcm a e) ds d

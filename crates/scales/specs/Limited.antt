@@ -1,5 +1,6 @@
 -- Scales with a limit.
-use Rattle.std.specs.Prelude.{◌≡◌, ℕ, cond, List, [], ◌∷◌, Some, None, Option, nat_le}
+use Rattle.std.specs.Prelude.{◌≡◌, ℕ, cond, List, Some, None, Option, nat_le}
+use Rattle.std.specs.List.{fold}
 use Rattle.semantics.specs.Scales.{lcm, lcm_all}
 
 -- a scale, unless it is over the limit
@@ -13,8 +14,7 @@ grown (Some s) d = limited (lcm s d)
 
 -- with all of a list, one by one
 abbrev pub grown_all : Option ℕ → List ℕ → Option ℕ
-grown_all s [] = s
-grown_all s (d ∷ ds) = grown_all (grown s d) ds
+grown_all s ds = fold grown s ds
 
 -- Grown one by one, a scale is the least common multiple of all, or nothing where that is over the limit.
 pub record GrowsAsAWhole : Type 0 where

@@ -4,15 +4,11 @@ ghost use Rattle.scales.specs.Examples.{ScalesWork};
 
 // Grown one by one, a scale is the least common multiple of all, or nothing where that is over the
 // limit: once over it, it stays over.
-pub fn scales_grow() -> u8
+pub fn scales_grow()
     ensures { GrowsAsAWhole }
-{
-    0
-}
+{}
 
 // Scales and ticks that are worked out.
-pub fn scales_work() -> u8
+pub fn scales_work()
     ensures { ScalesWork }
-{
-    0
-}
+{}

@@ -8,28 +8,22 @@ ghost use Rattle.scales.specs.Divisors.{Greatest};
 fn greatest_common_divisor(first: u32, second: u32) -> u32
     ensures { Greatest first second result }
 {
-    let mut divisor = first;
-    let mut rest = second;
-    while rest != 0 {
-        let next = divisor % rest;
-        divisor = rest;
-        rest = next;
+    if second == 0 {
+        return first;
     }
-    divisor
+    greatest_common_divisor(second, first % second)
 }
 
 // The largest scale that a station or a net may have.
-const LARGEST_SCALE: u64 = 1000000;
+const LARGEST_SCALE: u32 = 1_000_000;
 
 // The number, or nothing where it is over the limit of scales.
 fn within_limit(number: u64) -> Option<u32>
     ensures { result ≡ limited number }
 {
-    if number <= LARGEST_SCALE {
-        Some(number as u32)
-    } else {
-        None
-    }
+    u32::try_from(number)
+        .ok()
+        .filter(|scale| *scale <= LARGEST_SCALE)
 }
 
 // The least common multiple, or nothing where it is over the limit of scales. With 0 it is the

@@ -10,30 +10,22 @@ use book::record::Fraction;
 pub fn grow(scale: Option<u32>, denominator: u32) -> Option<u32>
     ensures { result ≡ grown scale denominator }
 {
-    match scale {
-        Some(scale) => least_common_multiple(scale, denominator),
-        None => None,
-    }
+    least_common_multiple(scale?, denominator)
 }
 
 // The scale of these denominators, or of these scales, or nothing where it is over the limit. A
 // denominator of 0 counts for nothing.
+#[tactic(auto, using(crate::proofs::Multiples::scale_by_fold))]
 pub fn scale_of(denominators: &[u32]) -> Option<u32>
     ensures { result ≡ limited (lcm_all 1 denominators.now) }
 {
-    let mut scale = Some(1);
-    for denominator in denominators {
-        scale = grow(scale, *denominator);
-    }
-    scale
+    denominators.iter().copied().fold(Some(1), grow)
 }
 
-// A time in ticks, `scale` to the second.
+// A time in ticks, `scale` to the second; 0 where the denominator is 0.
 pub fn in_ticks(scale: u32, time: Fraction) -> u64
     ensures { result ≡ ticks scale time }
 {
-    if time.denominator == 0 {
-        return 0;
-    }
-    u64::from(time.numerator) * u64::from(scale) / u64::from(time.denominator)
+    let parts = u64::from(time.numerator) * u64::from(scale);
+    parts.checked_div(u64::from(time.denominator)).unwrap_or(0)
 }

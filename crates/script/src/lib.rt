@@ -5,10 +5,12 @@
 
 use book::term::Path;
 use std::alloc::{AllocError, AllocFailed, Global};
+use std::error::Error;
+use std::fmt;
 use std::str::FromStr;
 
 // A call of a session. Without slots there is room enough.
-#[derive(Clone, Copy, PartialEq, Debug)]
+#[derive(Clone, Copy, PartialEq, Eq, Debug)]
 pub enum Command {
     // an empty line, or only a comment
     Nothing,
@@ -35,7 +37,7 @@ pub enum Command {
 }
 
 // What is wrong with a line.
-#[derive(Clone, Copy, PartialEq, Debug)]
+#[derive(Clone, Copy, PartialEq, Eq, Debug)]
 pub enum Mistake {
     UnknownCall,
     MissingNumber,
@@ -45,10 +47,9 @@ pub enum Mistake {
     OutOfMemory,
 }
 
-impl Mistake {
-    // The same in words.
-    pub fn text(self) -> &'static str {
-        match self {
+impl fmt::Display for Mistake {
+    fn fmt<W: fmt::Write>(&self, f: &mut fmt::Formatter<W>) -> fmt::Result {
+        f.write_str(match self {
             Mistake::UnknownCall => "there is no such call: make, wait, word, step, tell or paths",
             Mistake::MissingNumber => "a number is missing",
             Mistake::BadNumber => "this is no number, or it is too large",
@@ -56,9 +57,11 @@ impl Mistake {
             Mistake::BadPath =>
                 "a path is four numbers from 0 to 255 with commas between, as 0,1,1,1",
             Mistake::OutOfMemory => "there is no memory left",
-        }
+        })
     }
 }
+
+impl Error for Mistake {}
 
 impl From<AllocError> for Mistake {
     fn from(_: AllocError) -> Mistake {
@@ -74,30 +77,20 @@ impl<T: Drop> From<AllocFailed<T>> for Mistake {
 
 // The line up to its comment.
 fn without_comment(line: &str) -> &str {
-    match line.split_once('#') {
-        Some((call, _)) => call,
-        None => line,
-    }
+    line.split_once('#').map_or(line, |(call, _)| call)
 }
 
 fn number<T: FromStr + Drop>(word: Option<&str>) -> Result<T, Mistake>
 where
     T::Err: Drop,
 {
-    let Some(digits) = word else {
-        return Err(Mistake::MissingNumber);
-    };
-    match digits.parse::<T>() {
-        Ok(number) => Ok(number),
-        Err(_) => Err(Mistake::BadNumber),
-    }
+    word.ok_or(Mistake::MissingNumber)?
+        .parse::<T>()
+        .map_err(|_| Mistake::BadNumber)
 }
 
 fn slots(word: Option<&str>) -> Result<Option<usize>, Mistake> {
-    match word {
-        None => Ok(None),
-        Some(_) => Ok(Some(number(word)?)),
-    }
+    word.map(|digits| number(Some(digits))).transpose()
 }
 
 // The call on a line.
@@ -135,10 +128,7 @@ pub fn parse(line: &str) -> Result<Command, Mistake> {
 }
 
 fn part(word: Option<&str>) -> Result<u8, Mistake> {
-    match number(word) {
-        Ok(part) => Ok(part),
-        Err(_) => Err(Mistake::BadPath),
-    }
+    number(word).map_err(|_| Mistake::BadPath)
 }
 
 // A path: sending station, its port, hearing station, its port.
@@ -150,10 +140,10 @@ fn path(word: &str) -> Result<Path, Mistake> {
         hearer: part(parts.next())?,
         hearer_port: part(parts.next())?,
     };
-    if parts.next().is_some() {
-        return Err(Mistake::BadPath);
+    match parts.next() {
+        Some(_) => Err(Mistake::BadPath),
+        None => Ok(path),
     }
-    Ok(path)
 }
 
 // The paths on a line that begins with `paths`.

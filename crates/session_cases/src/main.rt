@@ -23,7 +23,7 @@ fn play(rt: &HostRuntime, name: &str) -> anyhow::Result<()> {
         &mut out,
     );
     out.flush()?;
-    if let Err(_) = played {
+    if played.is_err() {
         println!(rt; "broken off")?;
     }
     Ok(())

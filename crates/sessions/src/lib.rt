@@ -16,11 +16,12 @@ use machine::Machine;
 use net::Net;
 use script::{Command, Mistake, parse};
 use std::alloc::{AllocError, AllocFailed, Global};
-use std::io;
+use std::error::Error;
 use std::io::{BufRead, Write};
+use std::{fmt, io};
 
 // What ends a session before its script does.
-#[derive(Drop)]
+#[derive(Debug, Drop)]
 pub enum Broken {
     // the book is not lawful
     Unlawful(Refusal),
@@ -31,6 +32,20 @@ pub enum Broken {
     Failed(io::Error),
     OutOfMemory,
 }
+
+impl fmt::Display for Broken {
+    fn fmt<W: fmt::Write>(&self, f: &mut fmt::Formatter<W>) -> fmt::Result {
+        match self {
+            Broken::Unlawful(refusal) => write!(f, "{} at {}", refusal.fault, refusal.place),
+            Broken::BadLine(number, mistake) => write!(f, "line {number}: {mistake}"),
+            Broken::NoNet(number) => write!(f, "line {number}: no net has been made yet"),
+            Broken::Failed(error) => write!(f, "{error}"),
+            Broken::OutOfMemory => f.write_str("there is no memory left"),
+        }
+    }
+}
+
+impl Error for Broken {}
 
 impl From<io::Error> for Broken {
     fn from(error: io::Error) -> Broken {
@@ -69,10 +84,7 @@ impl Lists {
     // word or a step.
     pub fn of(heap: Global, paths: Vec<Path>) -> Result<Lists, Broken> {
         let room = paths.len().saturating_mul(2).saturating_add(16);
-        let mut slots = Vec::new(heap);
-        for _ in 0..room {
-            slots.push(NO_EVENT)?;
-        }
+        let slots = vec![in heap; NO_EVENT; room]?;
         Ok(Lists { paths, slots })
     }
 }
@@ -81,102 +93,85 @@ impl Lists {
 fn given(wanted: Option<usize>, room: usize) -> usize
     ensures { result ≤ room }
 {
-    match wanted {
-        Some(slots) => slots.min(room),
-        None => room,
-    }
+    wanted.unwrap_or(room).min(room)
 }
 
+// Writing a line uses no heap, so that it lends a buffer, which the longest line fits.
 fn tell_line<W: Write>(out: &mut W, line: Line) -> Result<(), Broken> {
     let mut buffer = [0; 64];
     if let Ok(count) = write_line(line, &mut buffer) {
-        if let Some(text) = buffer.get(0..count) {
+        if let Some(text) = buffer.get(..count) {
             out.write_all(text)?;
         }
     }
     Ok(())
 }
 
-// The events of a call, which stand in the first slots, or its refusal.
-fn tell_answer<W: Write>(
-    out: &mut W,
-    slots: &[Event],
-    answer: Result<usize, Refusal>,
-) -> Result<(), Broken> {
-    match answer {
-        Ok(count) => {
-            for event in slots.iter().take(count) {
-                tell_line(out, Line::Event(*event))?;
-            }
-            Ok(())
-        }
-        Err(refusal) => tell_line(out, Line::Refusal(refusal)),
-    }
-}
-
-fn tell_station<M: Machine, W: Write>(
-    out: &mut W,
-    net: &Net<M>,
-    station: usize,
-) -> Result<(), Broken> {
-    let (phase, sent, elapsed) = net.tell(station);
-    tell_line(
-        out,
-        Line::Telling(Telling {
-            phase,
-            sent,
-            elapsed,
-        }),
-    )
-}
-
-// Makes a net; the one before it stays where that is refused.
-fn make<M: Machine + Copy + Drop, W: Write>(
-    out: &mut W,
+// The machine of a book with its order, the paths and slots in use, the net that was made last, and
+// where the answers are written.
+#[derive(Drop)]
+struct Session<'a, M: Machine, W> {
     machine: M,
     order: Order,
-    lists: &mut Lists,
-    parts: u64,
-    wanted: Option<usize>,
-    net: &mut Option<Net<M>>,
-) -> Result<(), Broken> {
-    let room = given(wanted, lists.slots.len());
-    let slots = &mut lists.slots[0..room];
-    let answer = match Net::make(machine, &lists.paths, order, parts, slots) {
-        Ok((made, count)) => {
-            *net = Some(made);
-            Ok(count)
-        }
-        Err(refusal) => Err(refusal),
-    };
-    tell_answer(out, &lists.slots, answer)
+    lists: Lists,
+    net: Option<Net<M>>,
+    out: &'a mut W,
 }
 
-// A wait, a word, a step or a telling of the net.
-fn call<M: Machine, W: Write>(
-    out: &mut W,
-    net: &mut Net<M>,
-    lists: &mut Lists,
-    command: Command,
-) -> Result<(), Broken> {
-    let room = lists.slots.len();
-    let answer = match command {
-        Command::Wait { parts } => match net.wait(parts) {
-            Ok(()) => Ok(0),
-            Err(refusal) => Err(refusal),
-        },
-        Command::Word { port, value, slots } => {
-            let slots = &mut lists.slots[0..given(slots, room)];
-            net.word(&lists.paths, port, value, slots)
+impl<M: Machine + Copy + Drop, W: Write> Session<'_, M, W> {
+    // The events of a call, which stand in the first slots, or its refusal.
+    fn tell_answer(&mut self, answer: Result<usize, Refusal>) -> Result<(), Broken> {
+        match answer {
+            Ok(count) => {
+                for event in self.lists.slots.iter().take(count) {
+                    tell_line(self.out, Line::Event(*event))?;
+                }
+                Ok(())
+            }
+            Err(refusal) => tell_line(self.out, Line::Refusal(refusal)),
         }
-        Command::Step { slots } => {
-            let slots = &mut lists.slots[0..given(slots, room)];
-            net.step(&lists.paths, slots)
-        }
-        Command::Tell { station } => return tell_station(out, net, station),
-        _ => return Ok(()),
-    };
-    tell_answer(out, &lists.slots, answer)
+    }
+
+    // Makes a net; the one before it stays where that is refused.
+    fn make(&mut self, parts: u64, wanted: Option<usize>) -> Result<(), Broken> {
+        let Lists { paths, slots } = &mut self.lists;
+        let room = given(wanted, slots.len());
+        let made = Net::make(self.machine, paths, self.order, parts, &mut slots[..room]);
+        let answer = made.map(|(net, count)| {
+            self.net = Some(net);
+            count
+        });
+        self.tell_answer(answer)
+    }
+
+    // A wait, a word, a step or a telling of the net, which line `number` asks for.
+    fn call(&mut self, number: u64, command: Command) -> Result<(), Broken> {
+        let net = self.net.as_mut().ok_or(Broken::NoNet(number))?;
+        let Lists { paths, slots } = &mut self.lists;
+        let room = slots.len();
+        let answer = match command {
+            Command::Wait { parts } => net.wait(parts).map(|()| 0),
+            Command::Word {
+                port,
+                value,
+                slots: wanted,
+            } => net.word(paths, port, value, &mut slots[..given(wanted, room)]),
+            Command::Step { slots: wanted } => {
+                net.step(paths, &mut slots[..given(wanted, room)])
+            }
+            Command::Tell { station } => {
+                let (phase, sent, elapsed) = net.tell(station);
+                let telling = Telling {
+                    phase,
+                    sent,
+                    elapsed,
+                };
+                return tell_line(self.out, Line::Telling(telling));
+            }
+            _ => return Ok(()),
+        };
+        self.tell_answer(answer)
+    }
 }
 
 // Plays a script on nets over the machine.
@@ -188,26 +183,24 @@ pub fn play<M: Machine + Copy + Drop, B: BufRead + Drop, W: Write>(
     script: B,
     out: &mut W,
 ) -> Result<(), Broken> {
-    let mut lists = Lists::of(heap, paths)?;
-    let mut net = None;
-    let mut number = 0u64;
-    for line in script.lines(heap) {
+    let mut session = Session {
+        machine,
+        order,
+        lists: Lists::of(heap, paths)?,
+        net: None,
+        out,
+    };
+    for (number, line) in (1..=u64::MAX).zip(script.lines(heap)) {
         let line = line?;
-        number = number.saturating_add(1);
-        match parse(&line) {
-            Err(mistake) => return Err(Broken::BadLine(number, mistake)),
-            Ok(Command::Nothing) => {}
-            Ok(Command::Paths) => match script::paths(heap, &line) {
-                Err(mistake) => return Err(Broken::BadLine(number, mistake)),
-                Ok(paths) => lists = Lists::of(heap, paths)?,
-            },
-            Ok(Command::Make { parts, slots }) => make(
-                out, machine, order, &mut lists, parts, slots, &mut net,
-            )?,
-            Ok(command) => match &mut net {
-                None => return Err(Broken::NoNet(number)),
-                Some(net) => call(out, net, &mut lists, command)?,
-            },
+        let bad = |mistake| Broken::BadLine(number, mistake);
+        match parse(&line).map_err(bad)? {
+            Command::Nothing => {}
+            Command::Paths => {
+                let paths = script::paths(heap, &line).map_err(bad)?;
+                session.lists = Lists::of(heap, paths)?;
+            }
+            Command::Make { parts, slots } => session.make(parts, slots)?,
+            command => session.call(number, command)?,
         }
     }
     Ok(())

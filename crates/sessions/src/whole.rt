@@ -1,7 +1,6 @@
 // A script, played on the net of a whole book.
 use super::{Broken, play};
 use automaton::automata::Automata;
-use book::refusal::Refusal;
 use book::term::{BookKind, Path};
 use book_check::check;
 use machine::Machine;
@@ -17,19 +16,15 @@ const NO_PATH: Path = Path {
     hearer_port: 0,
 };
 
-// The book's own paths.
+// The book's own paths. They come into a lent list, since reading a book uses no heap.
 fn own_paths(heap: Global, book: &[u8]) -> Result<Vec<Path>, Broken> {
     let mut list = [NO_PATH; 2000];
+    let count = paths(book, &mut list).map_err(Broken::Unlawful)?;
     let mut own = Vec::new(heap);
-    match paths(book, &mut list) {
-        Ok(count) => {
-            for path in list.iter().take(count) {
-                own.push(*path)?;
-            }
-            Ok(own)
-        }
-        Err(refusal) => Err(Broken::Unlawful(refusal)),
+    for path in list.iter().take(count) {
+        own.push(*path)?;
     }
+    Ok(own)
 }
 
 // Plays a script on nets over a book's machine, with the book's order, and its paths at first.
@@ -41,10 +36,8 @@ fn play_over<M: Machine + Copy + Drop, B: BufRead + Drop, W: Write>(
     out: &mut W,
 ) -> Result<(), Broken> {
     let paths = own_paths(heap, book)?;
-    match order(book) {
-        Ok(order) => play(heap, machine, order, paths, script, out),
-        Err(refusal) => Err(Broken::Unlawful(refusal)),
-    }
+    let order = order(book).map_err(Broken::Unlawful)?;
+    play(heap, machine, order, paths, script, out)
 }
 
 // Plays a script on nets over a lawful book; refuses any other.
@@ -54,11 +47,8 @@ pub fn play_book<B: BufRead + Drop, W: Write>(
     script: B,
     out: &mut W,
 ) -> Result<(), Broken> {
-    match check(book) {
-        Ok(kind) => match kind {
-            BookKind::Model => play_over(heap, book, Model::over(book), script, out),
-            BookKind::Automaton => play_over(heap, book, Automata::over(book), script, out),
-        },
-        Err(refusal) => Err(Broken::Unlawful(refusal)),
+    match check(book).map_err(Broken::Unlawful)? {
+        BookKind::Model => play_over(heap, book, Model::over(book), script, out),
+        BookKind::Automaton => play_over(heap, book, Automata::over(book), script, out),
     }
 }

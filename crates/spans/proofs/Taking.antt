@@ -1,13 +1,13 @@
 -- What two hearings share, and what edges and transitions take.
-use Rattle.std.proofs.Common.{◌≡◌, ℕ, ◌<◌, ◌≤◌, Bool, true, ◌&&◌, eqb, leb, ◌⊎◌, Some, None, Option, sym, refl, ap, ◌∙◌, ap₂, inl, inr, mul-one, arith}
+use Rattle.std.proofs.Common.{◌≡◌, ℕ, ◌<◌, ◌≤◌, Bool, true, ◌&&◌, eqb, leb, ◌⊎◌, Option, sym, refl, ap, ◌∙◌, ap₂, inl, inr, arith}
 use Rattle.std.proofs.lemmas.Bool.{eqb-true, eq-eqb, cases_lt}
 use Rattle.std.proofs.lemmas.Bool.Decides.{nat_tests}
-use Rattle.semantics.specs.Times.{Fraction, Proper, Closed, Open, Absent, StepFirst, WordFirst, inside, whole}
+use Rattle.semantics.specs.Times.{Fraction, Proper, inside, whole}
 use Rattle.semantics.specs.Trees.{Label, Silent, Hears, Sends, Transition}
 use Rattle.semantics.specs.Fits.{word_fits, label_fits, within_bound}
 use Rattle.spans.specs.Spans.{shares_moment}
 use Rattle.spans.specs.Hearings.{heard, share_value, meet}
-use Rattle.spans.specs.Taking.{TakenByBoth, MeetExactly, taken, TakesAsCut, CutAsPrinted}
+use Rattle.spans.specs.Taking.{TakenByBoth, MeetExactly, taken, TakesAsCut}
 use Rattle.spans.proofs.Windows.{and_assoc, and_first, and_second, windows_mean, windows_count, guards_count}
 
 -- the larger of the two lowest values is in both ranges
@@ -85,17 +85,3 @@ takes_as_cut = record {
         ap (λ b. word_fits port lowest highest p v && b) (guards_count bound x.guard t pt)
         ∙ and_assoc (word_fits port lowest highest p v) (inside whole x.guard t) (within_bound bound t)
     go bound (Sends port value) x p v t pt = refl
-
-pub cut_as_printed : CutAsPrinted
-cut_as_printed StepFirst None (Closed h) = refl
-cut_as_printed StepFirst None (Open h) = refl
-cut_as_printed StepFirst None Absent = refl
-cut_as_printed WordFirst None (Closed h) = refl
-cut_as_printed WordFirst None (Open h) = refl
-cut_as_printed WordFirst None Absent = refl
-cut_as_printed StepFirst (Some b) (Closed h) = simp mul-one
-cut_as_printed StepFirst (Some b) (Open h) = simp mul-one
-cut_as_printed StepFirst (Some b) Absent = refl
-cut_as_printed WordFirst (Some b) (Closed h) = simp mul-one
-cut_as_printed WordFirst (Some b) (Open h) = simp mul-one
-cut_as_printed WordFirst (Some b) Absent = refl

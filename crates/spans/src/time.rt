@@ -5,7 +5,8 @@ ghost use Rattle.book.specs.declared.record.Fraction.{Fraction as Moment};
 
 use book::record::Fraction;
 
-// A kind of time that the ends of a window are given in.
+// A kind of time that the ends of a window are given in. It is no `PartialOrd` of std: 0/0 is at most
+// each time, and each is at most 0/0, so `==` would not be transitive.
 pub trait Time: Copy {
     // the fraction that it stands for
     ghost time: { Self → Moment };
@@ -16,21 +17,19 @@ pub trait Time: Copy {
 
     // Whether it is no later than the other.
     fn is_at_most(self, other: Self) -> bool
-        ensures { result ≡ at_most (time self) (time other) };
+        ensures { result ≡ at_most (time self) (time other) }
+    {
+        !other.is_before(self)
+    }
 }
 
-// Fractions are compared by cross products.
+// Fractions are compared by cross products, so 1/2 and 2/4 are one time.
 impl Time for Fraction {
     ghost time = { itself };
 
     fn is_before(self, other: Fraction) -> bool {
         u64::from(self.numerator) * u64::from(other.denominator)
             < u64::from(other.numerator) * u64::from(self.denominator)
-    }
-
-    fn is_at_most(self, other: Fraction) -> bool {
-        u64::from(self.numerator) * u64::from(other.denominator)
-            <= u64::from(other.numerator) * u64::from(self.denominator)
     }
 }
 
@@ -40,9 +39,5 @@ impl Time for u64 {
 
     fn is_before(self, other: u64) -> bool {
         self < other
-    }
-
-    fn is_at_most(self, other: u64) -> bool {
-        self <= other
     }
 }

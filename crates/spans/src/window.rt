@@ -6,7 +6,8 @@ use super::time::Time;
 use book::record::{HighEnd, Window};
 use book::term::Order;
 
-// The nearer of two high ends.
+// The nearer of two high ends. `HighEnd` is no `Bound` of std: the book's format has these three kinds
+// of end, and the definitions of what a book means go by them.
 fn nearer_end<T: Time>(high: HighEnd<T>, other: HighEnd<T>) -> HighEnd<T>
     ensures { result ≡ nearer T.Time.time high other }
 {
@@ -46,11 +47,10 @@ pub fn window_that_counts<T: Time>(
 ) -> Window<T>
     ensures { result ≡ counted T.Time.time order lifetime window }
 {
-    let end = match (order, lifetime) {
-        (_, None) => HighEnd::Absent,
-        (Order::StepFirst, Some(life)) => HighEnd::Open(life),
-        (Order::WordFirst, Some(life)) => HighEnd::Closed(life),
-    };
+    let end = lifetime.map_or(HighEnd::Absent, |life| match order {
+        Order::StepFirst => HighEnd::Open(life),
+        Order::WordFirst => HighEnd::Closed(life),
+    });
     cut_at(window, end)
 }
 
@@ -58,11 +58,7 @@ pub fn window_that_counts<T: Time>(
 pub fn guard_that_counts<T: Time>(bound: Option<T>, guard: Window<T>) -> Window<T>
     ensures { result ≡ bounded T.Time.time bound guard }
 {
-    let end = match bound {
-        Some(bound) => HighEnd::Closed(bound),
-        None => HighEnd::Absent,
-    };
-    cut_at(guard, end)
+    cut_at(guard, bound.map_or(HighEnd::Absent, HighEnd::Closed))
 }
 
 // Whether the window holds no time.

@@ -1,6 +1,7 @@
 -- The stages of the check: what has passed, and what is left to refuse.
-use Rattle.std.proofs.Common.{◌≡◌, ℕ, ◌≤◌, Bool, true, false, List, Some, None, Ok, Err, Option, Result, sym, refl, ap, ◌∙◌, subst, arith}
-use Rattle.std.proofs.lemmas.Bool.{both_ways}
+use Rattle.std.proofs.Common.{◌≡◌, ℕ, ◌<◌, ◌≤◌, Bool, true, false, List, Some, None, Ok, Err, Option, Result, sym, refl, ap, ◌∙◌, subst, ⊎_elim, arith}
+use Rattle.std.proofs.lemmas.Bool.{both_ways, cases_lt}
+use Rattle.std.specs.Option.{ok_or}
 use Rattle.book.specs.Bytes.{at}
 use Rattle.book.specs.Terms.{book_of_byte}
 use Rattle.book.specs.declared.refusal.Fault.{Fault}
@@ -8,7 +9,7 @@ use Rattle.book.specs.declared.refusal.Fault.TheVariants.{Length, Head, Layout, 
 use Rattle.book.specs.declared.refusal.Refusal.{Refusal}
 use Rattle.book.specs.declared.term.BookKind.{BookKind}
 use Rattle.structure.specs.Faults.{wrong_length, wrong_head}
-use Rattle.structure.specs.Search.{first_of, FoundOrNone}
+use Rattle.structure.specs.Search.{first_of, Smallest, FoundOrNone}
 use Rattle.structure.specs.Structure.{unless, at_0, laid_in, links_in, first_unlaid, first_ill_linked, structure_by, structure_in, structure_of}
 use Rattle.structure.proofs.Searching.{search_finds_smallest}
 
@@ -17,6 +18,11 @@ no_error p = let z : ◌≡◌ {A = ℕ} 0 1 = cc in absurd (omega arith)
 
 no_place : {A : Type 0} {p : ℕ} → ◌≡◌ {A = Option ℕ} (Some p) None → A
 no_place p = let z : ◌≡◌ {A = ℕ} 0 1 = cc in absurd (omega arith)
+
+-- what a byte tells, where it is a kind
+pub kind_told : (told : Option BookKind) (kind : BookKind) → ok_or told Head ≡ Ok kind → Some kind ≡ told
+kind_told None kind e = let z : ◌≡◌ {A = ℕ} 0 1 = cc in absurd (omega arith)
+kind_told (Some k) kind e = cc
 
 pub unless_ok : {A : Type 0} (found : Option ℕ) (f : Fault) (later : Result A Refusal) (x : A) → unless found f later ≡ Ok x → (found ≡ None) × (later ≡ Ok x)
 unless_ok None f later x e = (refl, e)
@@ -36,6 +42,22 @@ fails_none bad n each = go (first_of bad n) (search_finds_smallest bad n)
     go : (found : Option ℕ) → FoundOrNone bad n found → found ≡ None
     go None f = refl
     go (Some p) f = absurd (both_ways (bad p) (each p f.within) f.fails)
+
+-- where a place is the smallest at which the test is true, it is found
+pub first_found : (bad : ℕ → Bool) (n i : ℕ) → Smallest bad n i → first_of bad n ≡ Some i
+first_found bad n i s = go (first_of bad n) (search_finds_smallest bad n)
+  where
+    go : (found : Option ℕ) → FoundOrNone bad n found → found ≡ Some i
+    go None f = absurd (both_ways (bad i) (f i s.within) s.fails)
+    go (Some p) f =
+        ⊎_elim
+        (λ (less : p < i). absurd (both_ways (bad p) (s.first p less) f.fails))
+        (λ (more : i ≤ p).
+        ⊎_elim
+        (λ (less : i < p). absurd (both_ways (bad i) (f.first i less) s.fails))
+        (λ (again : p ≤ i). ap Some (omega arith))
+        (cases_lt i p))
+        (cases_lt p i)
 
 -- what each stage has found of a book that passes
 pub record Passed (b : List ℕ) (kind : BookKind) : Type 0 where

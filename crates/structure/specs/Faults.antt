@@ -1,5 +1,6 @@
 -- What is wrong with a book's length, its head, a record's layout, and a record's links.
 use Rattle.std.specs.Prelude.{ℕ, ◌+◌, ◌*◌, Bool, false, cond, not, ◌&&◌, ◌||◌, List, [], ◌∷◌, length, is_some, ◌==◌, nat_lt}
+use Rattle.std.specs.List.{list_any}
 use Rattle.book.specs.Bytes.{at, two, row, zeros}
 use Rattle.book.specs.Terms.{most_records, order_of_byte, kind_byte}
 use Rattle.book.specs.declared.term.BookKind.{BookKind}
@@ -39,8 +40,7 @@ wrong_link b n l =
     not (l.to == 0) && astray
 
 abbrev pub some_link : (Link → Bool) → List Link → Bool
-some_link test [] = false
-some_link test (l ∷ ls) = test l || some_link test ls
+some_link test ls = list_any test ls
 
 -- record i has a wrong index field; or it is not the head, and it is not named exactly once by all
 -- index fields or not among the records `seen` that are reached

@@ -6,17 +6,12 @@ ghost use Rattle.links.specs.Walks.{walk_answer, walk_list, filled};
 ghost use Rattle.structure.specs.Heads.{order_in, head_of, order_of, path_at, paths_answer, paths_list};
 
 use super::structure;
-use book::bytes::{byte_at, row_of, two_at};
+use book::bytes::two_at;
 use book::record::{AutomatonBody, Head, ModelBody};
 use book::refusal::{Fault, Refusal};
 use book::term::{BookKind, Order, Path};
 use links::walk::walk;
-
-fn order_in(book: &[u8]) -> Order
-    ensures { result ≡ order_in book.now }
-{
-    Order::from_byte(byte_at(book, 4)).unwrap_or(Order::StepFirst)
-}
+use records::heads::{order_in, path_at};
 
 // The order, the first station or automaton, and the first path.
 pub fn head(book: &[u8]) -> Result<Head, Refusal>
@@ -34,8 +29,7 @@ pub fn head(book: &[u8]) -> Result<Head, Refusal>
 pub fn order(book: &[u8]) -> Result<Order, Refusal>
     ensures { result ≡ order_of book.now }
 {
-    structure(book)?;
-    Ok(order_in(book))
+    structure(book).map(|_| order_in(book))
 }
 
 // The numbers of the path records, in the order of their chain.
@@ -51,26 +45,13 @@ fn path_numbers(kind: BookKind, book: &[u8], list: &mut [u16]) -> Result<usize, 
     }
 }
 
-// The path in a record.
-fn path_at(book: &[u8], record: u16) -> Path
-    ensures { result ≡ path_at book.now «record» }
-{
-    let row = row_of(book, record);
-    Path {
-        sender: byte_at(row, 4),
-        sender_port: byte_at(row, 5),
-        hearer: byte_at(row, 6),
-        hearer_port: byte_at(row, 7),
-    }
-}
-
 // The paths in the records of these numbers, into the first slots of the list.
 fn fill_paths(book: &[u8], numbers: &[u16], list: &mut [Path])
     requires { length numbers.now ≤ length list.old }
     ensures { list.new ≡ filled (map (path_at book.now) numbers.now) list.old }
 {
-    for i in 0..numbers.len() {
-        list[i] = path_at(book, numbers[i]);
+    for (i, record) in numbers.iter().enumerate() {
+        list[i] = path_at(book, *record);
     }
 }
 
@@ -81,13 +62,11 @@ pub fn paths(book: &[u8], list: &mut [Path]) -> Result<usize, Refusal>
     ensures slots { list.new ≡ paths_list book.now list.old }
 {
     let kind = structure(book)?;
+    // Stays: without the heap, the numbers are kept until it is known that the list has room for all.
     let mut numbers = [0; 2000];
     let count = path_numbers(kind, book, &mut numbers)?;
     if list.len() < count {
-        return Err(Refusal {
-            fault: Fault::Room,
-            place: 0,
-        });
+        return Err(Fault::Room.at(0));
     }
     fill_paths(book, &numbers[0..count], list);
     Ok(count)

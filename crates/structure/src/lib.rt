@@ -3,6 +3,7 @@
 #![tactic(auto)]
 
 ghost use Rattle.std.specs.Prelude.{◌≡◌, ◌+◌, ◌*◌, length, is_some};
+ghost use Rattle.records.specs.Fields.{decoded_by};
 ghost use Rattle.structure.specs.Examples.{ExamplesStand};
 ghost use Rattle.structure.specs.Faults.{told_records, wrong_length, wrong_head};
 ghost use Rattle.structure.specs.Rewritten.{SoundBooksRewritten};
@@ -13,18 +14,19 @@ ghost use Rattle.structure.specs.Structure.{structure_by, structure_of};
 pub mod contents;
 mod layout;
 mod linking;
+pub mod refuse;
 mod rule;
 
 use book::bytes::{byte_at, two_at};
 use book::record::{AutomatonBody, ModelBody};
 use book::refusal::{Fault, Refusal};
 use book::term::{BookKind, Order};
-use layout::Layout;
+use layout::is_unlaid;
 use linking::check_links;
 use links::link::Linked;
 use records::rows::Rows;
-use rule::{first_broken, refuse, whole_book};
-use std::marker::PhantomData;
+use refuse::{refuse, whole_book};
+use rule::first_broken;
 
 fn has_wrong_length(book: &[u8]) -> bool
     ensures { result ≡ wrong_length book.now }
@@ -37,7 +39,7 @@ fn has_wrong_head(kind: BookKind, book: &[u8]) -> bool
 {
     let n = two_at(book, 2);
     byte_at(book, 1) != 1
-        || !Order::from_byte(byte_at(book, 4)).is_some()
+        || Order::try_from(byte_at(book, 4)).is_err()
         || n == 0
         || n > kind.most_records()
 }
@@ -45,15 +47,12 @@ fn has_wrong_head(kind: BookKind, book: &[u8]) -> bool
 // The structure of a book whose length is right, by the records of its kind.
 fn structure_by<R: Rows + Linked>(book: &[u8]) -> Result<BookKind, Refusal>
     requires { length book.now ≡ 32 * (told_records book.now + 1) }
-    ensures { result ≡ structure_by R.Rows.kind (λ row. is_some (R.Rows.decoded row)) R.Linked.links book.now }
+    ensures { result ≡ structure_by R.Rows.kind (λ row. is_some (decoded_by R.Rows.body row)) R.Linked.links book.now }
 {
     let kind = R::kind();
     let n = two_at(book, 2);
     refuse(Fault::Head, whole_book(has_wrong_head(kind, book)))?;
-    let layout = Layout::<R> {
-        records: PhantomData,
-    };
-    refuse(Fault::Layout, first_broken(&layout, book, n))?;
+    refuse(Fault::Layout, first_broken(n, |i| is_unlaid::<R>(book, i)))?;
     check_links::<R>(book, n)?;
     Ok(kind)
 }
@@ -63,42 +62,28 @@ pub fn structure(book: &[u8]) -> Result<BookKind, Refusal>
     ensures { result ≡ structure_of book.now }
 {
     refuse(Fault::Length, whole_book(has_wrong_length(book)))?;
-    let Some(kind) = BookKind::from_byte(byte_at(book, 0)) else {
-        return Err(Refusal {
-            fault: Fault::Head,
-            place: 0,
-        });
-    };
-    match kind {
+    match BookKind::try_from(byte_at(book, 0))? {
         BookKind::Model => structure_by::<ModelBody>(book),
         BookKind::Automaton => structure_by::<AutomatonBody>(book),
     }
 }
 
 // A refusal's place is the smallest record that breaks the rule.
-pub fn search_finds_smallest() -> u8
+pub fn search_finds_smallest()
     ensures { SearchFindsSmallest }
-{
-    0
-}
+{}
 
 // The books that pass are just the sound ones.
-pub fn passes_sound() -> u8
+pub fn passes_sound()
     ensures { PassesSound }
-{
-    0
-}
+{}
 
 // The relay's book and some damaged copies of it, by evaluation of the definitions.
-pub fn examples_stand() -> u8
+pub fn examples_stand()
     ensures { ExamplesStand }
-{
-    0
-}
+{}
 
 // A book that passes, read record by record and written again, has the same bytes.
-pub fn sound_books_rewritten() -> u8
+pub fn sound_books_rewritten()
     ensures { SoundBooksRewritten }
-{
-    0
-}
+{}

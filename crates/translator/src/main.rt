@@ -6,6 +6,7 @@
 mod session;
 
 use book::bytes::byte_at;
+use book::refusal::Refusal;
 use book::term::BookKind;
 use book_check::check;
 use report::account::account;
@@ -46,6 +47,13 @@ impl<T: Drop> From<AllocFailed<T>> for Stop {
     }
 }
 
+// Says what a book is refused for, which ends the program.
+fn refuse(rt: &HostRuntime, book: &[u8], refusal: Refusal) -> Result<(), Stop> {
+    let text = refusal_text(rt.alloc(), book, refusal)?;
+    print!(rt; "{text}")?;
+    Err(Stop::Refused)
+}
+
 // Judges a book: an account where it passes, else the refusal.
 fn judge(rt: &HostRuntime, book: &[u8]) -> Result<(), Stop> {
     match check(book) {
@@ -54,26 +62,20 @@ fn judge(rt: &HostRuntime, book: &[u8]) -> Result<(), Stop> {
             print!(rt; "{text}lawful\n")?;
             Ok(())
         }
-        Err(refusal) => {
-            let text = refusal_text(rt.alloc(), book, refusal)?;
-            print!(rt; "{text}")?;
-            Err(Stop::Refused)
-        }
+        Err(refusal) => refuse(rt, book, refusal),
     }
 }
 
 // Lists the records of a book, sound or not, and then the refusal if there is one.
 fn show(rt: &HostRuntime, book: &[u8]) -> Result<(), Stop> {
-    if let Some(kind) = BookKind::from_byte(byte_at(book, 0)) {
+    if let Ok(kind) = BookKind::try_from(byte_at(book, 0)) {
         let text = listing(rt.alloc(), kind, book)?;
         print!(rt; "{text}")?;
     }
-    if let Err(refusal) = check(book) {
-        let text = refusal_text(rt.alloc(), book, refusal)?;
-        print!(rt; "{text}")?;
-        return Err(Stop::Refused);
+    match check(book) {
+        Ok(_) => Ok(()),
+        Err(refusal) => refuse(rt, book, refusal),
     }
-    Ok(())
 }
 
 // The bytes of a file, or a line that says why there are none.
@@ -115,6 +117,7 @@ fn run(rt: &HostRuntime) -> Result<(), Stop> {
 }
 
 fn main(rt: HostRuntime) -> ExitCode {
+    // Stays: `map_or` would name the failure before the success.
     match run(&rt) {
         Ok(()) => ExitCode::SUCCESS,
         Err(_) => ExitCode::FAILURE,

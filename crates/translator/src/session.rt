@@ -1,6 +1,5 @@
 // A script, played on a book's net.
-use super::Stop;
-use report::listing::refusal_text;
+use super::{Stop, refuse};
 use sessions::Broken;
 use sessions::whole::play_book;
 use std::fs::File;
@@ -9,23 +8,9 @@ use std::io::{BufRead, BufReader, BufWriter, Write};
 // Says what broke a session off, after what it had told so far.
 fn broken_off(rt: &HostRuntime, book: &[u8], script: &str, broken: Broken) -> Result<(), Stop> {
     match broken {
-        Broken::Unlawful(refusal) => {
-            let text = refusal_text(rt.alloc(), book, refusal)?;
-            print!(rt; "{text}")?;
-            return Err(Stop::Refused);
-        }
-        Broken::BadLine(line, mistake) => {
-            eprintln!(rt; "translator: {script}: line {line}: {}", mistake.text())?;
-        }
-        Broken::NoNet(line) => {
-            eprintln!(rt; "translator: {script}: line {line}: no net has been made yet")?;
-        }
-        Broken::Failed(error) => {
-            eprintln!(rt; "translator: {script}: {error}")?;
-        }
-        Broken::OutOfMemory => {
-            eprintln!(rt; "translator: there is no memory left")?;
-        }
+        Broken::Unlawful(refusal) => return refuse(rt, book, refusal),
+        Broken::OutOfMemory => eprintln!(rt; "translator: {broken}")?,
+        _ => eprintln!(rt; "translator: {script}: {broken}")?,
     }
     Err(Stop::Unable)
 }
@@ -40,10 +25,7 @@ fn play_lines<B: BufRead + Drop>(
     let mut out = BufWriter::new(rt.alloc(), rt.stdout())?;
     let played = play_book(rt.alloc(), book, lines, &mut out);
     out.flush()?;
-    match played {
-        Ok(()) => Ok(()),
-        Err(broken) => broken_off(rt, book, name, broken),
-    }
+    played.or_else(|broken| broken_off(rt, book, name, broken))
 }
 
 // Plays the script of that name on the net of a lawful book; `-` is standard input.

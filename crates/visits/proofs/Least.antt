@@ -1,12 +1,12 @@
--- The smallest of two lists, and of a list turn by turn.
-use Rattle.std.proofs.Common.{◌≡◌, ℕ, suc, ◌+◌, ◌<◌, ◌≤◌, Bool, true, false, cond, leb, List, [], ◌∷◌, ◌++◌, length, get_or, drop, Some, None, Option, sym, refl, ap, ◌∙◌, subst, arith}
-use Rattle.std.specs.List.{AllByRecursion}
-use Rattle.std.proofs.lemmas.List.{at_drop_more, at_drop_all}
+-- The smallest of two lists, and of what is found along a chain.
+use Rattle.std.proofs.Common.{◌≡◌, ℕ, suc, ◌+◌, ◌<◌, ◌≤◌, Bool, true, false, cond, leb, List, [], ◌∷◌, ◌++◌, Some, None, Option, sym, refl, ap, ◌∙◌, subst, arith}
+use Rattle.std.specs.Prelude.{min, fold}
+use Rattle.std.specs.List.{AllByRecursion, reduce, filter_map, cons_option, enumerate_from}
 use Rattle.std.proofs.ByRecursion.{has_get_or, has_append_right, All-weaker}
 use Rattle.std.proofs.lemmas.Bool.{leb-true, leb-false}
 use Rattle.std.proofs.lemmas.Bool.Decides.{nat_tests}
-use Rattle.visits.specs.Smallest.{least, smallest, along, IsSmallest, SmallestIsSmallest}
-use Rattle.visits.specs.Visits.{followed}
+use Rattle.std.specs.Bool.{then_some}
+use Rattle.visits.specs.Smallest.{least, smallest, along, only_if, IsSmallest, SmallestIsSmallest}
 
 pub least_none : (x : Option ℕ) → least x None ≡ x
 least_none None = refl
@@ -21,26 +21,6 @@ least_assoc (Some x) (Some y) (Some z) = grind (arith, nat_tests)
 pub smallest_append : (xs ys : List ℕ) → smallest (xs ++ ys) ≡ least (smallest xs) (smallest ys)
 smallest_append [] ys = refl
 smallest_append (x ∷ xs) ys = ap (least (Some x)) (smallest_append xs ys) ∙ sym (least_assoc (Some x) (smallest xs) (smallest ys))
-
--- one more number of a list
-module _ (f : ℕ → ℕ → List ℕ) (ks : List ℕ) where
-  pub visit_more : (i : ℕ) (best here best' : Option ℕ) → i < length ks → here ≡ smallest (f i (get_or ks i 0)) → best' ≡ least best here
-      → least best' (smallest (along f (i + 1) (drop (i + 1) ks))) ≡ least best (smallest (along f i (drop i ks)))
-  visit_more i best here best' h eh eb =
-      let next : i + 1 ≡ suc i = omega arith in
-      let rest = smallest (along f (i + 1) (drop (i + 1) ks)) in
-      ap (λ z. least z rest) eb
-      ∙ least_assoc best here rest
-      ∙ ap (λ z. least best (least z rest)) eh
-      ∙ ap (λ j. least best (least (smallest (f i (get_or ks i 0))) (smallest (along f j (drop (i + 1) ks))))) next
-      ∙ ap (least best) (sym (smallest_append (f i (get_or ks i 0)) (along f (suc i) (drop (i + 1) ks))))
-      ∙ ap (least best) (sym (at_drop_more (λ l. smallest (along f i l)) ks i 0 h))
-
-  pub visit_all : (i : ℕ) (best : Option ℕ) → length ks ≤ i → least best (smallest (along f i (drop i ks))) ≡ best
-  visit_all i best h = ap (least best) (at_drop_all (λ l. smallest (along f i l)) ks i h) ∙ least_none best
-
-pub of_both : (xs ys : List ℕ) (x y r : Option ℕ) → x ≡ smallest xs → y ≡ smallest ys → r ≡ least x y → r ≡ smallest (xs ++ ys)
-of_both xs ys x y r ex ey er = er ∙ ap (λ z. least z y) ex ∙ ap (least (smallest xs)) ey ∙ sym (smallest_append xs ys)
 
 pub smallest_is_smallest : SmallestIsSmallest
 smallest_is_smallest [] = refl
@@ -58,6 +38,38 @@ smallest_is_smallest (k ∷ ks) = with_first (smallest ks) (smallest_is_smallest
             let gt : m < k = leb-false k m e in
             (has_append_right (k ∷ []) ks m found.0, (omega arith, found.1))
 
--- what was found along the chain from an index that was read
-pub found_along : (b : List ℕ) (f : ℕ → ℕ → List ℕ) (first i : ℕ) (r : Option ℕ) → first ≡ i → r ≡ smallest (along f 0 (followed b first)) → r ≡ smallest (along f 0 (followed b i))
-found_along b f first i r e h = h ∙ ap (λ k. smallest (along f 0 (followed b k))) e
+least_min : (x y : ℕ) → Some (min x y) ≡ least (Some x) (Some y)
+least_min x y = grind (arith, nat_tests)
+
+fold_least : (x : ℕ) (xs : List ℕ) → Some (fold min x xs) ≡ least (Some x) (smallest xs)
+fold_least x [] = refl
+fold_least x (y ∷ ys) = fold_least (min x y) ys ∙ ap (λ o. least o (smallest ys)) (least_min x y) ∙ least_assoc (Some x) (Some y) (smallest ys)
+
+-- `min` of a list
+pub min_smallest : (xs : List ℕ) → reduce min xs ≡ smallest xs
+min_smallest [] = refl
+min_smallest (x ∷ xs) = fold_least x xs
+
+-- `min` over what is found along a chain, place by place
+smallest_cons : (o : Option ℕ) (xs : List ℕ) → smallest (cons_option o xs) ≡ least o (smallest xs)
+smallest_cons None xs = refl
+smallest_cons (Some x) xs = refl
+
+smallest_found : (f : ℕ → ℕ → List ℕ) (i : ℕ) (ks : List ℕ) → smallest (filter_map (λ p. smallest (f p.0 p.1)) (enumerate_from i ks)) ≡ smallest (along f i ks)
+smallest_found f i [] = refl
+smallest_found f i (k ∷ ks) =
+    smallest_cons (smallest (f i k)) (filter_map (λ p. smallest (f p.0 p.1)) (enumerate_from (i + 1) ks))
+    ∙ ap (least (smallest (f i k))) (ap (λ j. smallest (filter_map (λ p. smallest (f p.0 p.1)) (enumerate_from j ks))) (omega arith) ∙ smallest_found f (suc i) ks)
+    ∙ sym (smallest_append (f i k) (along f (suc i) ks))
+
+pub min_along : (f : ℕ → ℕ → List ℕ) (ks : List ℕ) → reduce min (filter_map (λ p. smallest (f p.0 p.1)) (enumerate_from 0 ks)) ≡ smallest (along f 0 ks)
+min_along f ks = min_smallest (filter_map (λ p. smallest (f p.0 p.1)) (enumerate_from 0 ks)) ∙ smallest_found f 0 ks
+
+-- the number k, if the test holds
+pub smallest_if : (t : Bool) (k : ℕ) → then_some t k ≡ smallest (only_if t k)
+smallest_if true k = refl
+smallest_if false k = refl
+
+-- the record itself, or what is found below it
+pub of_record : (t : Bool) (k : ℕ) (ks : List ℕ) → least (then_some t k) (smallest ks) ≡ smallest (only_if t k ++ ks)
+of_record t k ks = ap (λ o. least o (smallest ks)) (smallest_if t k) ∙ sym (smallest_append (only_if t k) ks)

@@ -1,14 +1,14 @@
 // Rules about records by where they stand, and the smallest record of a book that breaks one.
 ghost use Rattle.std.specs.Prelude.{◌≡◌, ℕ, List};
-ghost use Rattle.visits.specs.Smallest.{smallest, only_if};
-ghost use Rattle.visits.specs.Visits.{Rule, phase_faults, station_faults, faults};
+ghost use Rattle.visits.specs.Smallest.{smallest};
+ghost use Rattle.visits.specs.Visits.{Rule, edge_faults, word_faults, phase_faults, station_faults, faults};
 
-use super::visit::{Visit, if_broken, least_of, smallest_along};
+use super::visit::{least_of, smallest_along};
 use book::bytes::{row_of, two_at};
 use links::link::Linked;
-use std::marker::PhantomData;
 
-// A rule: whether a record breaks it, told where it stands. Places count from 0.
+// A rule: whether a record breaks it, told where it stands. Places count from 0. There are no
+// default answers, since `false` would not meet these clauses at every rule.
 pub trait Rules {
     ghost rule: { Self → List ℕ → Rule };
 
@@ -25,97 +25,61 @@ pub trait Rules {
         ensures { result ≡ (rule self.now book.now).word place w };
 }
 
-// The edges of a phase.
-#[derive(Drop)]
-struct Edges<'a, L> {
-    rule: &'a L,
-    station: u16,
-    phase: u16,
+// The smallest edge of a phase that breaks the rule.
+fn edge_fault<R: Linked, L: Rules>(rule: &L, book: &[u8], s: u16, p: u16) -> Option<u16>
+    ensures { result ≡ smallest (edge_faults book.now (L.Rules.rule rule.now book.now) s p) }
+{
+    let first = two_at(row_of(book, p), 4);
+    smallest_along::<R, _>(book, first, |(_, e)| rule.edge(book, s, p, e).then_some(e))
 }
 
-impl<L: Rules> Visit for Edges<'_, L> {
-    ghost found = { λ v b i e. only_if ((L.Rules.rule v.rule.now b).edge v.station v.phase e) e };
-
-    fn visit(&self, book: &[u8], place: usize, k: u16) -> Option<u16> {
-        if_broken(self.rule.edge(book, self.station, self.phase, k), k)
-    }
+// The smallest word of a phase that breaks it.
+fn word_fault<R: Linked, L: Rules>(rule: &L, book: &[u8], p: u16) -> Option<u16>
+    ensures { result ≡ smallest (word_faults book.now (L.Rules.rule rule.now book.now) p) }
+{
+    let first = two_at(row_of(book, p), 8);
+    smallest_along::<R, _>(
+        book,
+        first,
+        |(place, w)| rule.word(book, place, w).then_some(w),
+    )
 }
 
-// The words of a phase.
-#[derive(Drop)]
-struct Words<'a, L> {
-    rule: &'a L,
+// The smallest record that breaks it among a phase, its edges and its words.
+#[tactic(auto, using(crate::proofs::Least::of_record, crate::proofs::Least::smallest_append))]
+fn phase_fault<R: Linked, L: Rules>(
+    rule: &L,
+    book: &[u8],
+    s: u16,
+    place: usize,
+    p: u16,
+) -> Option<u16>
+    ensures { result ≡ smallest (phase_faults book.now (L.Rules.rule rule.now book.now) s place p) }
+{
+    let itself = rule.phase(book, s, place, p).then_some(p);
+    let edges = edge_fault::<R, L>(rule, book, s, p);
+    let words = word_fault::<R, L>(rule, book, p);
+    least_of(itself, least_of(edges, words))
 }
 
-impl<L: Rules> Visit for Words<'_, L> {
-    ghost found = { λ v b i w. only_if ((L.Rules.rule v.rule.now b).word i w) w };
-
-    fn visit(&self, book: &[u8], place: usize, k: u16) -> Option<u16> {
-        if_broken(self.rule.word(book, place, k), k)
-    }
-}
-
-// The phases of a station, each with its edges and words.
-#[derive(Drop)]
-struct Phases<'a, R, L> {
-    rule: &'a L,
-    station: u16,
-    records: PhantomData<R>,
-}
-
-impl<R: Linked, L: Rules> Visit for Phases<'_, R, L> {
-    ghost found = { λ v b i p. phase_faults b (L.Rules.rule v.rule.now b) v.station i p };
-
-    fn visit(&self, book: &[u8], place: usize, k: u16) -> Option<u16> {
-        let rule = self.rule;
-        let station = self.station;
-        let row = row_of(book, k);
-        let itself = if_broken(rule.phase(book, station, place, k), k);
-        let visit = Edges {
-            rule,
-            station,
-            phase: k,
-        };
-        let edges = smallest_along::<R, Edges<'_, L>>(&visit, book, two_at(row, 4));
-        let words = smallest_along::<R, Words<'_, L>>(&Words { rule }, book, two_at(row, 8));
-        least_of(itself, least_of(edges, words))
-    }
-}
-
-// The stations of a book, each with its phases.
-#[derive(Drop)]
-struct Stations<'a, R, L> {
-    rule: &'a L,
-    records: PhantomData<R>,
-}
-
-impl<R: Linked, L: Rules> Visit for Stations<'_, R, L> {
-    ghost found = { λ v b i s. station_faults b (L.Rules.rule v.rule.now b) i s };
-
-    fn visit(&self, book: &[u8], place: usize, k: u16) -> Option<u16> {
-        let rule = self.rule;
-        let itself = if_broken(rule.station(book, place, k), k);
-        let visit = Phases::<R, L> {
-            rule,
-            station: k,
-            records: PhantomData,
-        };
-        let phases = smallest_along::<R, Phases<'_, R, L>>(
-            &visit,
-            book,
-            two_at(row_of(book, k), 4),
-        );
-        least_of(itself, phases)
-    }
+// The same of a station and its phases.
+#[tactic(auto, using(crate::proofs::Least::of_record))]
+fn station_fault<R: Linked, L: Rules>(rule: &L, book: &[u8], place: usize, s: u16) -> Option<u16>
+    ensures { result ≡ smallest (station_faults book.now (L.Rules.rule rule.now book.now) place s) }
+{
+    let itself = rule.station(book, place, s).then_some(s);
+    let first = two_at(row_of(book, s), 4);
+    let phases = smallest_along::<R, _>(book, first, |(i, p)| {
+        phase_fault::<R, L>(rule, book, s, i, p)
+    });
+    least_of(itself, phases)
 }
 
 // The smallest record of a book that breaks the rule.
 pub fn first_fault<R: Linked, L: Rules>(rule: &L, book: &[u8]) -> Option<u16>
     ensures { result ≡ smallest (faults book.now (L.Rules.rule rule.now book.now)) }
 {
-    let visit = Stations::<R, L> {
-        rule,
-        records: PhantomData,
-    };
-    smallest_along::<R, Stations<'_, R, L>>(&visit, book, two_at(book, 6))
+    smallest_along::<R, _>(book, two_at(book, 6), |(place, s)| {
+        station_fault::<R, L>(rule, book, place, s)
+    })
 }

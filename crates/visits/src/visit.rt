@@ -1,10 +1,12 @@
 // Visiting the records of a chain.
-ghost use Rattle.std.specs.Prelude.{◌≡◌, ℕ, Bool, List};
-ghost use Rattle.visits.specs.Smallest.{least, smallest, only_if, along, SmallestIsSmallest};
+ghost use Rattle.std.specs.Prelude.{◌≡◌, ℕ, ◌≤◌, List, length};
+ghost use Rattle.std.specs.Iterator.{ActsAs};
+ghost use Rattle.links.specs.Walks.{left};
+ghost use Rattle.visits.specs.Smallest.{least, smallest, along, SmallestIsSmallest};
 ghost use Rattle.visits.specs.Visits.{followed};
 
+use links::chain::Chain;
 use links::link::Linked;
-use links::walk::walk;
 
 // The most records that a book has.
 const MOST: usize = 2000;
@@ -13,57 +15,38 @@ const MOST: usize = 2000;
 pub fn least_of(x: Option<u16>, y: Option<u16>) -> Option<u16>
     ensures { result ≡ least x y }
 {
-    match x {
-        None => y,
-        Some(a) => match y {
-            None => x,
-            Some(b) => if a <= b { x } else { y },
-        },
+    match (x, y) {
+        (Some(a), Some(b)) => Some(a.min(b)),
+        _ => x.or(y),
     }
 }
 
-// The record, if it breaks a rule.
-pub fn if_broken(broken: bool, record: u16) -> Option<u16>
-    ensures { result ≡ smallest (only_if broken «record») }
+// The records of the chain from `first` on; none in bytes that are longer than any book.
+pub fn followed<R: Linked>(book: &[u8], first: u16) -> Chain<'_, R>
+    ensures records { left result ≡ followed book.now first }
+    ensures few { length (left result) ≤ 2000 }
 {
-    if broken { Some(record) } else { None }
+    let records = (book.len() / 32).saturating_sub(1);
+    Chain::of(book, if records > MOST { 0 } else { first })
 }
 
-// What is looked for at each record of a chain.
-pub trait Visit {
-    // the records that are found at a record of the book, by its place in the chain
-    ghost found: { Self → List ℕ → ℕ → ℕ → List ℕ };
-
-    // The smallest of them.
-    fn visit(&self, book: &[u8], place: usize, k: u16) -> Option<u16>
-        ensures { result ≡ smallest (found self.now book.now place k) };
-}
-
-// The smallest record that is found at the records of these numbers.
-fn smallest_in<V: Visit>(visit: &V, book: &[u8], numbers: &[u16]) -> Option<u16>
-    ensures { result ≡ smallest (along (V.Visit.found visit.now book.now) 0 numbers.now) }
+// The smallest record that is found along the chain from `first` on: `find` gives the smallest that
+// is found at a record, told its place in the chain, counted from 0.
+pub fn smallest_along<R: Linked, F: Fn((usize, u16)) -> Option<u16>>(
+    book: &[u8],
+    first: u16,
+    find: F,
+) -> Option<u16>
+    requires { (f : _) (at : _) → F.FnMut.pre f at }
+    ensures { (found : ℕ → ℕ → List ℕ) → ActsAs F.FnMut find (λ at. smallest (found at.0 at.1)) → result ≡ smallest (along found 0 (followed book.now first)) }
 {
-    let mut best = None;
-    for (i, k) in numbers.iter().enumerate() {
-        best = least_of(best, visit.visit(book, i, *k));
-    }
-    best
-}
-
-// The smallest record that is found along the chain from `first` on.
-pub fn smallest_along<R: Linked, V: Visit>(visit: &V, book: &[u8], first: u16) -> Option<u16>
-    ensures { result ≡ smallest (along (V.Visit.found visit.now book.now) 0 (followed book.now first)) }
-{
-    let mut list = [0; MOST];
-    match walk::<R>(book, first, &mut list) {
-        Ok(count) => smallest_in(visit, book, &list[0..count]),
-        Err(_) => None,
-    }
+    followed::<R>(book, first)
+        .enumerate()
+        .filter_map(find)
+        .min()
 }
 
 // The smallest is one of them, and none is smaller.
-pub fn smallest_is_smallest() -> u8
+pub fn smallest_is_smallest()
     ensures { SmallestIsSmallest }
-{
-    0
-}
+{}

@@ -5,8 +5,6 @@
 ghost use Rattle.worked_examples.specs.Worked.{WorkedExamples};
 
 // The check, scales, printing and sessions give on these books what is stated.
-pub fn examples_work_out() -> u8
+pub fn examples_work_out()
     ensures { WorkedExamples }
-{
-    0
-}
+{}

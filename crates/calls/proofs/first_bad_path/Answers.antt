@@ -1,14 +1,23 @@
-use Rattle.std.proofs.lemmas.List.{get_or_default}
-use Rattle.calls.proofs.Steps.{bad_found, bad_more, bad_none}
+use Rattle.std.proofs.Common.{◌≡◌, ◌+◌, Some, None, sym, ap, ◌∙◌, arith, rules}
+use Rattle.std.specs.Option.{option_map}
+use Rattle.std.proofs.lemmas.Iterator.{YieldsList-from_slice}
+use Rattle.std.proofs.lemmas.Iterator.Search.{position_from_yields_List}
+use Rattle.semantics.specs.Calls.{bad_path}
+use Rattle.calls.proofs.Paths.{first_bad_at}
 use Rattle.calls.proofs.first_bad_path.Goals as goal
 
-pub returns-then-is_bad : goal.returns-then-is_bad
-returns-then-is_bad c =
-    bad_found c.args.stations c.args.paths.now c.loop-i.i _ _ c.loop-i-test.true (get_or_default _ _ _ _ c.loop-i-test.true) c.if-is_bad.ensures c.loop-i.invariant
-
-pub loop-i-preserved : goal.loop-i-preserved
-loop-i-preserved c =
-    bad_more c.args.stations c.args.paths.now c.loop-i.i _ _ c.loop-i-test.true (get_or_default _ _ _ _ c.loop-i-test.true) c.if-is_bad.ensures c.loop-i.invariant
+pub returns-in_err-place : goal.returns-in_err-place
+returns-in_err-place c =
+    let bad = bad_path c.args.stations in
+    c.from_residual.ensures
+    ∙ ap (option_map (λ i. 1 + i)) (position_from_yields_List bad _ _ None c.in_err-place.ensures.ran (YieldsList-from_slice c.args.paths.now cc) (λ x b q k. search rules))
+    ∙ sym (first_bad_at bad 1 c.args.paths.now)
 
 pub returns : goal.returns
-returns c = bad_none c.args.stations c.args.paths.now c.loop-i.i _ c.loop-i-test.false c.loop-i.invariant
+returns c =
+    let bad = bad_path c.args.stations in
+    let next : c.in_ok-place.place + 1 ≡ 1 + c.in_ok-place.place = omega arith in
+    ap Some next
+    ∙ ap (option_map (λ i. 1 + i))
+    (position_from_yields_List bad _ _ (Some c.in_ok-place.place) c.in_ok-place.ensures.ran (YieldsList-from_slice c.args.paths.now cc) (λ x b q k. search rules))
+    ∙ sym (first_bad_at bad 1 c.args.paths.now)

@@ -1,14 +1,10 @@
-use Rattle.std.proofs.Common.{◌/◌, ◌<◌, ◌≢◌, length, ap, ◌∙◌, arith, length-set, below_more}
-use Rattle.std.proofs.lemmas.List.{get_or-set_same, get_or-set_other}
+use Rattle.std.proofs.Common.{arith, rules}
+use Rattle.semantics.specs.Machine.{meaning_at, factor}
+use Rattle.machine.proofs.Arrays.{made_at}
 use Rattle.making.proofs.factors_to.Goals as goal
 
-pub loop-i-preserved : goal.loop-i-preserved
-loop-i-preserved g c =
-    let i = c.loop-i.i in
+pub returns : goal.returns
+returns g c =
+    let ms = g.M.Machine.meaning c.args.machine.now in
     let few = (g.M.Machine.sound c.args.machine.now).few_stations in
-    let l : i < length c.loop-i.factors = omega (arith, c.loop-i.invariant.0, c.stations-i-end.ensures, c.loop-i-test.true) in (
-      length-set c.loop-i.factors i _ ∙ c.loop-i.invariant.0,
-      below_more _ _
-          (λ k h. let ne : k ≢ i = omega arith in get_or-set_other c.loop-i.factors i k _ 0 ne ∙ c.loop-i.invariant.1 k h)
-          (get_or-set_same c.loop-i.factors i _ 0 l ∙ ap (λ s. c.args.scale / s) c.scale_at.ensures.value),
-    )
+    λ i l. made_at _ c.from_fn.result (λ i. factor c.args.scale (meaning_at ms i)) (λ i y q k. search rules) 16 0 i 0 c.from_fn.ensures.items.each (omega arith) (omega arith)

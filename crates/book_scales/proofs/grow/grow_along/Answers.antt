@@ -1,22 +1,13 @@
-use Rattle.std.proofs.Common.{◌≡◌, ℕ, ◌-◌, false, cond, [], take, replicate, sym, ap, ◌∙◌, arith}
-use Rattle.std.specs.List.{flat_map}
-use Rattle.book.specs.Chains.{chain_of}
-use Rattle.links.specs.Walks.{short}
-use Rattle.links.proofs.Listed.{walk_listed, walk_had_room}
+use Rattle.std.proofs.lemmas.Iterator.Consumers.{YieldsList-from_first, fold_from_yields_List}
+use Rattle.std.proofs.Common.{◌∙◌}
+use Rattle.links.specs.Walks.{left}
 use Rattle.scales.specs.Limited.{grown_all}
+use Rattle.visits.specs.Visits.{followed}
+use Rattle.book_scales.proofs.Growing.{grown_along}
 use Rattle.book_scales.proofs.grow.grow_along.Goals as goal
 
-pub returns-in-Ok : goal.returns-in-Ok
-returns-in-Ok g c =
-    let b = c.args.book.now in
-    let first = c.args.first in
-    let count = c.in-Ok.count in
-    let standing = g.D.Denominators.standing c.args.found.now b in
-    let slots = replicate {A = ℕ} 2000 0 in
-    let listed = walk_listed b first slots count c.in-Ok.ensures.answer in
-    let z : count - 0 ≡ count = omega arith in
-    let room : short b slots ≡ false = walk_had_room b first slots count c.in-Ok.ensures.answer in
-    let all : take (count - 0) c.walk.new.list ≡ chain_of b first =
-    ap (λ n. take n c.walk.new.list) z ∙ ap (take count) c.in-Ok.ensures.slots ∙ listed.1 in
-    c.grow_in.ensures
-    ∙ ap (λ l. grown_all c.args.start (flat_map standing l)) (all ∙ sym (ap (λ t. cond t [] (chain_of b first)) room))
+pub returns : goal.returns
+returns g c standing acts =
+    let ks = followed c.args.book.now c.args.first in
+    fold_from_yields_List _ (λ scale k. grown_all scale (standing k)) c.args.start c.fold.result c.fold.ensures.ran (YieldsList-from_first (λ x. x) left ks c.followed.ensures.records) acts
+    ∙ grown_along standing c.args.start ks

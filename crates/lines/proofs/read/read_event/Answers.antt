@@ -1,15 +1,33 @@
-use Rattle.std.proofs.Common.{◌≡◌, [], ◌∷◌, arith}
+use Rattle.std.proofs.Common.{[], ◌∷◌, get_or, refl, ap, arith}
 use Rattle.lines.proofs.Marks.{no_event}
-use Rattle.lines.proofs.Numbers.{same_numbers}
+use Rattle.lines.proofs.Numbers.{same_numbers, converts}
 use Rattle.lines.proofs.read.read_event.Goals as goal
 
-pub returns-then-station-gt255 : goal.returns-then-station-gt255
-returns-then-station-gt255 c =
-    no_event c.args.kind c.args.bytes.now
+pub returns-in_err-station : goal.returns-in_err-station
+returns-in_err-station c =
+    rw c.from_residual.ensures
+    (no_event c.args.kind c.args.bytes.now (λ s p v hs hp hv are. c.in_err-station.ensures (s ∷ p ∷ v ∷ []) refl are))
+
+pub returns-in_err-ok : goal.returns-in_err-ok
+returns-in_err-ok c =
+    rw c.from_residual-in_err-ok.ensures
+    (no_event c.args.kind c.args.bytes.now
     (λ s p v hs hp hv are.
-    let n = c.in_ok-station in
-    let e = same_numbers c.args.bytes.now (n.station ∷ n.port ∷ n.value ∷ []) (s ∷ p ∷ v ∷ []) n.ensures are in
-    let a : n.station ≡ s = cc in
-    let b : n.port ≡ p = cc in
-    let d : n.value ≡ v = cc in
-    omega (arith, c.then-station-gt255.either))
+    let e = same_numbers c.args.bytes.now c.in_ok-station.field-0 (s ∷ p ∷ v ∷ []) c.in_ok-station.ensures are in
+    converts _ _ c.try_from.result c.ok.result c.try_from.ensures c.ok.ensures.value c.in_err-ok.was (omega (arith, hs, ap (λ l. get_or l 0 0) e))))
+
+pub returns-in_err-ok-2 : goal.returns-in_err-ok-2
+returns-in_err-ok-2 c =
+    rw c.from_residual-in_err-ok-2.ensures
+    (no_event c.args.kind c.args.bytes.now
+    (λ s p v hs hp hv are.
+    let e = same_numbers c.args.bytes.now c.in_ok-station.field-0 (s ∷ p ∷ v ∷ []) c.in_ok-station.ensures are in
+    converts _ _ c.try_from-2.result c.ok-2.result c.try_from-2.ensures c.ok-2.ensures.value c.in_err-ok-2.was (omega (arith, hp, ap (λ l. get_or l 1 0) e))))
+
+pub returns-in_err-ok-3 : goal.returns-in_err-ok-3
+returns-in_err-ok-3 c =
+    rw c.from_residual-in_err-ok-3.ensures
+    (no_event c.args.kind c.args.bytes.now
+    (λ s p v hs hp hv are.
+    let e = same_numbers c.args.bytes.now c.in_ok-station.field-0 (s ∷ p ∷ v ∷ []) c.in_ok-station.ensures are in
+    converts _ _ c.try_from-3.result c.ok-3.result c.try_from-3.ensures c.ok-3.ensures.value c.in_err-ok-3.was (omega (arith, hv, ap (λ l. get_or l 2 0) e))))

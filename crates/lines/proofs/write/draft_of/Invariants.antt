@@ -1,6 +1,7 @@
-use Rattle.lines.specs.Lines.{marked}
-use Rattle.lines.proofs.Ahead.{Ahead}
+use Rattle.std.proofs.Common.{◌≡◌, ◌++◌, drop}
+use Rattle.lines.specs.Lines.{ended, marked}
 use Rattle.lines.proofs.write.draft_of.Given as goal
 
+-- the draft with the remaining numbers behind it is the whole line
 abbrev pub invariant-loop-number : goal.invariant-loop-number
-invariant-loop-number l = Ahead (marked l.mark l.numbers) l.draft l.numbers l.number-index
+invariant-loop-number l = l.draft ++ ended (drop l.number-index l.numbers) ≡ marked l.mark l.numbers

@@ -1,11 +1,10 @@
-use Rattle.std.proofs.Common.{ℕ, ◌-◌}
-use Rattle.book.specs.Bytes.{row}
-use Rattle.book.specs.Chains.{next_index}
+use Rattle.book.specs.Chains.{chain_of}
+use Rattle.links.specs.Walks.{left}
 use Rattle.links.proofs.Chains.{Walked}
 use Rattle.links.proofs.walk.walk.Given as goal
 
-abbrev pub invariant-loop-count : goal.invariant-loop-count
-invariant-loop-count g l = Walked (λ (i : ℕ). next_index (row l.book i)) l.records l.first l.initial.list l.list l.count l.record
-
-abbrev pub decreases-loop-count : goal.decreases-loop-count
-decreases-loop-count g l = l.records - l.count
+abbrev pub invariant-loop-record : goal.invariant-loop-record
+invariant-loop-record g l =
+    (goal.iterator-loop-record g).can_next l.record-iterator
+    × (goal.iterator-loop-record g).is_finite l.record-iterator
+    × Walked (chain_of l.book l.first) l.initial.list l.list (left l.record-iterator) l.count

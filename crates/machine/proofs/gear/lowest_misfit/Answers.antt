@@ -1,22 +1,28 @@
-use Rattle.std.proofs.Common.{arith}
+use Rattle.std.proofs.Common.{◌≡◌, suc, ◌+◌, length, Some, None, sym, ap, ◌∙◌, arith, rules}
 use Rattle.gearing.specs.Gearing.{misfit_at}
-use Rattle.machine.proofs.Lowest.{lowest_found, lowest_more, lowest_none}
+use Rattle.semantics.specs.Calls.{number}
+use Rattle.semantics.proofs.Lowest.{is_lowest}
+use Rattle.machine.proofs.Lowest.{lowest_from_find}
 use Rattle.machine.proofs.gear.lowest_misfit.Goals as goal
 
-pub misfit_at-requires : goal.misfit_at-requires
-misfit_at-requires g c = let few = (g.M.Machine.sound c.args.below.now).few_stations in omega (arith, c.stations-stations.ensures)
+pub returns-in_err-place : goal.returns-in_err-place
+returns-in_err-place g c =
+    let p = misfit_at (g.M.Machine.meaning c.args.below.now) c.args.factors.now in
+    c.from_residual.ensures ∙ ap number (lowest_from_find p (length (g.M.Machine.meaning c.args.below.now)) _ _ _ None (search rules) c.in_err-place.ensures.ran (λ x b q k. search rules))
 
-pub returns-then-misfit_at : goal.returns-then-misfit_at
-returns-then-misfit_at g c =
-    lowest_found (misfit_at (g.M.Machine.meaning c.args.below.now) c.args.factors.now) c.stations-stations.result c.loop-i.i _
-    c.loop-i-test.true c.if-misfit_at.ensures c.loop-i.invariant
-
-pub loop-i-preserved : goal.loop-i-preserved
-loop-i-preserved g c =
-    lowest_more (misfit_at (g.M.Machine.meaning c.args.below.now) c.args.factors.now) c.stations-stations.result c.loop-i.i _
-    c.loop-i-test.true c.if-misfit_at.ensures c.loop-i.invariant
+pub overflow_add-result : goal.overflow_add-result
+overflow_add-result g c =
+    let p = misfit_at (g.M.Machine.meaning c.args.below.now) c.args.factors.now in
+    let few = (g.M.Machine.sound c.args.below.now).few_stations in
+    let under =
+    (is_lowest p 0 (length (g.M.Machine.meaning c.args.below.now)) c.in_ok-place.place
+    (sym (lowest_from_find p (length (g.M.Machine.meaning c.args.below.now)) _ _ _ (Some c.in_ok-place.place) (search rules) c.in_ok-place.ensures.ran (λ x b q k. search rules)))).under
+    in
+    omega arith
 
 pub returns : goal.returns
 returns g c =
-    lowest_none (misfit_at (g.M.Machine.meaning c.args.below.now) c.args.factors.now) c.stations-stations.result c.loop-i.i _
-    c.loop-i-test.false c.loop-i.invariant
+    let p = misfit_at (g.M.Machine.meaning c.args.below.now) c.args.factors.now in
+    let next : c.in_ok-place.place + 1 ≡ suc c.in_ok-place.place = omega arith in
+    ap Some next
+    ∙ ap number (lowest_from_find p (length (g.M.Machine.meaning c.args.below.now)) _ _ _ (Some c.in_ok-place.place) (search rules) c.in_ok-place.ensures.ran (λ x b q k. search rules))

@@ -1,15 +1,9 @@
-use Rattle.std.proofs.Common.{◌<◌, ◌≢◌, length, unwrap_or, ap, ◌∙◌, arith, length-set, get_or-set_other, get_or-set_same, below_more}
+use Rattle.std.proofs.Common.{arith, rules}
 use Rattle.book_scales.specs.Scales.{fitting_scale}
+use Rattle.places.specs.Tables.{station_in}
+use Rattle.machine.proofs.Arrays.{made_at}
 use Rattle.model.proofs.phase.scales_of.Goals as goal
 
-pub loop-i-preserved : goal.loop-i-preserved
-loop-i-preserved c =
-    let long = c.loop-i.invariant.0 in
-    let i = c.loop-i.i in
-    let here = c.unwrap_or.ensures ∙ ap (λ o. unwrap_or o 0) c.station_scale.ensures ∙ ap (fitting_scale c.args.book.now) c.station_at.ensures in
-    let lt : i < length c.loop-i.scales = omega (arith, c.loop-i-test.true, c.min-i-end.ensures) in (
-      length-set c.loop-i.scales i c.unwrap_or.result ∙ long,
-      below_more _ _
-          (λ k h. let ne : k ≢ i = omega arith in rw get_or-set_other (c.loop-i.invariant.1 k h))
-          (rw get_or-set_same here),
-    )
+pub returns : goal.returns
+returns c =
+    λ i l _. made_at _ c.from_fn.result (λ i. fitting_scale c.args.book.now (station_in c.args.places.now i)) (λ i y q k. search rules) 16 0 i 0 c.from_fn.ensures.items.each (omega arith) (omega arith)

@@ -1,17 +1,19 @@
-use Rattle.std.proofs.Common.{ap, ◌∙◌}
-use Rattle.std.proofs.lemmas.List.{take_all}
-use Rattle.visits.specs.Smallest.{smallest}
-use Rattle.pairs.specs.Pairs.{meeting}
-use Rattle.pairs.proofs.Meeting.{meeting_more}
+use Rattle.std.proofs.Common.{rules, sym, ◌∙◌}
+use Rattle.std.specs.Bool.{then_some}
+use Rattle.std.proofs.lemmas.Iterator.{YieldsList-from_slice}
+use Rattle.std.proofs.lemmas.Iterator.Adapters.{option_map_id}
+use Rattle.std.proofs.lemmas.Iterator.Consumers.{YieldsList-from_filter_map, YieldsList-at, min_from_yields_List}
+use Rattle.pairs.specs.Pairs.{some_meets}
+use Rattle.pairs.proofs.Meeting.{first_met}
 use Rattle.pairs.proofs.taker.first_meeting.Goals as goal
-
-pub loop-taker-preserved : goal.loop-taker-preserved
-loop-taker-preserved g c =
-    meeting_more g.T.Time.time c.args.takers.now c.loop-taker.taker-index c.taker-item.result c.meets_one.result
-    c.loop-taker.best c.if_broken.result c.least_of-best.result
-    c.loop-taker-test.true c.taker-item.is c.meets_one.ensures c.loop-taker.invariant c.if_broken.ensures c.least_of-best.ensures
 
 pub returns : goal.returns
 returns g c =
+    let time = g.T.Time.time in
     let all = c.args.takers.now in
-    c.loop-taker.invariant ∙ ap (λ l. smallest (meeting g.T.Time.time all l)) (take_all c.loop-taker.taker-index all c.loop-taker-test.false)
+    sym (option_map_id c.min.result)
+    ∙ min_from_yields_List c.filter_map.result c.min.result c.min.ensures.ran
+    (YieldsList-from_filter_map _ (λ x. then_some (some_meets time x all) x.edge)
+    (YieldsList-at c.filter_map.ensures.source (YieldsList-from_slice all cc))
+    c.filter_map.ensures.closure (λ x r q k. search rules))
+    ∙ first_met time all all

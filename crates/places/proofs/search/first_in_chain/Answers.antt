@@ -1,30 +1,18 @@
-use Rattle.std.proofs.Common.{◌<◌, ◌≤◌, sym, ap, ◌∙◌, arith}
-use Rattle.book.specs.Chains.{next_index}
-use Rattle.links.proofs.Chains.{chain_at_0, chain_past, chain_spent}
-use Rattle.places.proofs.Firsts.{looking_start, looking_found, looking_more, looking_none}
+use Rattle.std.proofs.Common.{rules, ◌≡◌, ℕ, ap, sym, ◌∙◌}
+use Rattle.std.specs.List.{find, enumerate_from}
+use Rattle.std.specs.Option.{option_map}
+use Rattle.std.proofs.lemmas.Iterator.Adapters.{option_map_id}
+use Rattle.std.proofs.lemmas.Iterator.Consumers.{YieldsList-from_first, YieldsList-from_enumerate, YieldsList-at}
+use Rattle.std.proofs.lemmas.Iterator.Search.{find_from_yields_List}
+use Rattle.book.specs.Chains.{chain_of}
+use Rattle.links.specs.Walks.{left}
+use Rattle.places.proofs.Firsts.{found_first}
 use Rattle.places.proofs.search.first_in_chain.Goals as goal
 
-pub loop-place-init : goal.loop-place-init
-loop-place-init g c = looking_start c.args.book.now _ _ _ c.saturating_sub-records.ensures
-
-pub returns-then-passes : goal.returns-then-passes
-returns-then-passes g c =
-    let low : c.loop-place.k ≤ c.saturating_sub-records.result = omega (arith, c.from.ensures, c.if-from-records.true) in
-    looking_found _ _ _ _ _ _ c.loop-place.invariant c.loop-place-test.true c.if-k-ne0.true low (sym c.if-passes.ensures)
-
-pub loop-place-preserved : goal.loop-place-preserved
-loop-place-preserved g c =
-    let low : c.loop-place.k ≤ c.saturating_sub-records.result = omega (arith, c.from.ensures, c.if-from-records.true) in
-    looking_more _ _ _ _ _ _ c.loop-place.invariant _ c.loop-place-test.true c.if-k-ne0.true low (sym c.if-passes.ensures)
-    (c.next-k.ensures ∙ ap next_index c.row_of.ensures)
-
-pub returns-after-loop-place : goal.returns-after-loop-place
-returns-after-loop-place g c = looking_none _ _ _ _ _ _ c.loop-place.invariant (chain_spent _ _ _ _ c.loop-place-test.false)
-
-pub returns-else-k-ne0 : goal.returns-else-k-ne0
-returns-else-k-ne0 g c = looking_none _ _ _ _ _ _ c.loop-place.invariant (chain_at_0 _ _ _ _ c.if-k-ne0.false)
-
-pub returns-else-from-records : goal.returns-else-from-records
-returns-else-from-records g c =
-    let past : c.saturating_sub-records.result < c.loop-place.k = omega (arith, c.from.ensures, c.if-from-records.false) in
-    looking_none _ _ _ _ _ _ c.loop-place.invariant (chain_past _ _ _ _ past)
+pub returns : goal.returns
+returns g c passes acts =
+    let ks = chain_of c.args.book.now c.args.first in
+    let road = YieldsList-from_enumerate (YieldsList-at c.enumerate.ensures.source (YieldsList-from_first (λ x. x) left ks c.of.ensures.records)) c.enumerate.ensures.count in
+    let told : option_map (λ p. p) c.find.result ≡ find (λ p. passes p.0 p.1) (enumerate_from 0 ks) = find_from_yields_List (λ (p : ℕ × ℕ). passes p.0 p.1) c.find.new.self _ c.find.result c.find.ensures.ran road acts in
+    let number : c.map.result ≡ option_map (λ p. p.1) c.find.result = search rules in
+    number ∙ ap (option_map (λ p. p.1)) (sym (option_map_id c.find.result) ∙ told) ∙ found_first passes 0 ks

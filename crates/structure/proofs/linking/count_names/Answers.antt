@@ -9,11 +9,3 @@ pub loop-i-preserved : goal.loop-i-preserved
 loop-i-preserved g c =
     let three : length c.links_of.result ≡ 3 = search rules in
     tallied_more _ _ _ _ _ _ c.loop-i.invariant c.loop-i-test.true three c.links_of.ensures c.count_on.auto.counts c.count_on.ensures
-
-pub count_on-requires : goal.count_on-requires
-count_on-requires g c =
-    let three : length c.links_of.result ≡ 3 = search rules in
-    λ j. omega (arith, c.loop-i.invariant.bound j)
-
-pub returns : goal.returns
-returns g c = tallied_all _ _ _ _ c.loop-i.invariant c.loop-i-test.false

@@ -1,21 +1,16 @@
-use Rattle.std.proofs.Common.{◌≡◌, ℕ, ◌-◌, false, cond, [], take, replicate, sym, ap, ◌∙◌, arith}
-use Rattle.book.specs.Chains.{chain_of}
-use Rattle.links.specs.Walks.{short}
-use Rattle.links.proofs.Listed.{walk_listed, walk_had_room}
-use Rattle.visits.specs.Smallest.{smallest, along}
+use Rattle.std.proofs.Common.{ℕ, sym, ◌∙◌}
+use Rattle.std.proofs.lemmas.Iterator.Adapters.{option_map_id}
+use Rattle.std.proofs.lemmas.Iterator.Consumers.{YieldsList-from_first, YieldsList-from_enumerate, YieldsList-from_filter_map, YieldsList-at, min_from_yields_List}
+use Rattle.links.specs.Walks.{left}
+use Rattle.visits.specs.Smallest.{smallest}
+use Rattle.visits.specs.Visits.{followed}
+use Rattle.visits.proofs.Least.{min_along}
 use Rattle.visits.proofs.visit.smallest_along.Goals as goal
 
-pub returns-in-Ok : goal.returns-in-Ok
-returns-in-Ok g c =
-    let b = c.args.book.now in
-    let first = c.args.first in
-    let count = c.in-Ok.count in
-    let found = g.V.Visit.found c.args.visit.now b in
-    let slots = replicate {A = ℕ} 2000 0 in
-    let listed = walk_listed b first slots count c.in-Ok.ensures.answer in
-    let z : count - 0 ≡ count = omega arith in
-    let room : short b slots ≡ false = walk_had_room b first slots count c.in-Ok.ensures.answer in
-    let all : take (count - 0) c.walk.new.list ≡ chain_of b first =
-    ap (λ n. take n c.walk.new.list) z ∙ ap (take count) c.in-Ok.ensures.slots ∙ listed.1 in
-    c.smallest_in.ensures
-    ∙ ap (λ l. smallest (along found 0 l)) (all ∙ sym (ap (λ t. cond t [] (chain_of b first)) room))
+pub returns : goal.returns
+returns g c found acts =
+    let ks = followed c.args.book.now c.args.first in
+    let road = YieldsList-from_filter_map _ (λ (p : ℕ × ℕ). smallest (found p.0 p.1))
+    (YieldsList-at c.filter_map.ensures.source (YieldsList-from_enumerate (YieldsList-at c.enumerate.ensures.source (YieldsList-from_first (λ x. x) left ks c.followed.ensures.records)) c.enumerate.ensures.count))
+    c.filter_map.ensures.closure acts in
+    sym (option_map_id c.min.result) ∙ min_from_yields_List c.filter_map.result c.min.result c.min.ensures.ran road ∙ min_along found ks

@@ -9,7 +9,7 @@ returns-in_err-place c =
     let self = c.args.self.now in
     c.from_residual.ensures
     ∙ unknown_hearing _ self.places.stations c.args.station (stations_told self.book.now self.bytes self.accepted self.places self.placed)
-    c.in_err-place.ensures c.args.stance c.args.port c.args.value c.args.elapsed c.args.per_tick
+    c.in_err-place.ensures c.args.stance c.args.word.port c.args.word.value c.args.elapsed c.args.per_tick
 
 pub known_phase-requires : goal.known_phase-requires
 known_phase-requires c =
@@ -21,20 +21,20 @@ returns-in_err-k c =
     let self = c.args.self.now in
     c.from_residual-in_err-k.ensures
     ∙ unknown_heard self.book.now self.bytes self.accepted self.places self.placed c.args.station c.in_ok-place.place c.in_ok-place.ensures
-    self.scales self.scaled c.args.stance c.args.port c.args.value c.args.elapsed c.args.per_tick c.in_err-k.ensures
+    self.scales self.scaled c.args.stance c.args.word.port c.args.word.value c.args.elapsed c.args.per_tick c.in_err-k.ensures
 
 pub returns-then-not-may_ask_parts : goal.returns-then-not-may_ask_parts
 returns-then-not-may_ask_parts c =
     let self = c.args.self.now in
     too_fine self.book.now self.bytes self.accepted self.places self.placed c.args.station c.in_ok-place.place c.in_ok-place.ensures
-    self.scales self.scaled c.args.stance c.args.port c.args.value c.args.elapsed c.args.per_tick c.in_ok-k.k c.in_ok-k.ensures
+    self.scales self.scaled c.args.stance c.args.word.port c.args.word.value c.args.elapsed c.args.per_tick c.in_ok-k.k c.in_ok-k.ensures
     c.may_ask_parts.result c.may_ask_parts.ensures.value c.if-not-may_ask_parts.true
 
 pub returns-then-stance-ne0 : goal.returns-then-stance-ne0
 returns-then-stance-ne0 c =
     let self = c.args.self.now in
     deaf self.book.now self.bytes self.accepted self.places self.placed c.args.station c.in_ok-place.place c.in_ok-place.ensures
-    self.scales self.scaled c.args.stance c.args.port c.args.value c.args.elapsed c.args.per_tick c.in_ok-k.k c.in_ok-k.ensures
+    self.scales self.scaled c.args.stance c.args.word.port c.args.word.value c.args.elapsed c.args.per_tick c.in_ok-k.k c.in_ok-k.ensures
     c.may_ask_parts.result c.may_ask_parts.ensures.value c.if-not-may_ask_parts.false c.if-stance-ne0.true
 
 pub heard-requires : goal.heard-requires
@@ -50,6 +50,6 @@ pub returns : goal.returns
 returns c =
     let self = c.args.self.now in
     hearing_told self.book.now self.bytes self.accepted self.places self.placed c.args.station c.in_ok-place.place c.in_ok-place.ensures
-    self.scales self.scaled c.args.stance c.args.port c.args.value c.args.elapsed c.args.per_tick c.in_ok-k.k c.in_ok-k.ensures
+    self.scales self.scaled c.args.stance c.args.word.port c.args.word.value c.args.elapsed c.args.per_tick c.in_ok-k.k c.in_ok-k.ensures
     c.may_ask_parts.result c.may_ask_parts.ensures.value c.if-not-may_ask_parts.false c.if-stance-ne0.false c.heard.result _
     (ap (λ n. c.args.per_tick * n) c.from.ensures) c.heard.ensures

@@ -16,10 +16,7 @@ step-answer-requires g c =
     let x = c.args.self.now in
     let n = c.count-stations.result in
     let many : length (take n x.table) ≡ n = length-take-le n x.table (omega (arith, x.long, c.count-stations.ensures.few)) in
-    record {
-      fine = (x.some, x.few);
-      there = many ∙ c.count-stations.ensures.value ∙ length-map (geared_by (g.M.Machine.meaning x.machine.below) x.machine.factors) only_known;
-    }
+    many ∙ c.count-stations.ensures.value ∙ length-map (geared_by (g.M.Machine.meaning x.rules.machine.below) x.rules.machine.factors) only_known
 
 pub returns : goal.returns
 returns g c =
@@ -33,15 +30,15 @@ returns g c =
     let many : length states ≡ n = c.step-answer.auto.states ∙ length-take-le n x.table (omega (arith, x.long, c.count-stations.ensures.few)) in
     let eq = ap (λ k. answer_call net ps (step (length es)) (state_of (take k x.table) x.total)) is in
     let kept =
-    subst (λ (σ : List StationState). Within σ x.total) (sym (ap (λ t. t.stations) c.step-answer.ensures.states_left))
+    subst (λ (σ : List StationState). Within σ x.total) (sym (ap (λ t. t.stations) (c.step-answer.ensures.states_left x.total)))
     (step_within net ps (state_of (take n x.table) x.total) (within_take x.table n x.total x.within) (length es))
     in
     record {
-      answer = c.step-answer.ensures.answer ∙ ap (λ o. counted o.answer) eq;
-      slots = c.step-answer.ensures.slots ∙ ap (λ o. written o.answer es) eq;
+      answer = c.step-answer.ensures.answer x.total ∙ ap (λ o. counted o.answer) eq;
+      slots = c.step-answer.ensures.slots x.total ∙ ap (λ o. written o.answer es) eq;
       state =
           ap (λ σ. state_of σ x.total) (front states x.table n many (length net.stations) (sym is))
-          ∙ c.step-answer.ensures.states_left ∙ ap (λ o. o.state) eq;
+          ∙ c.step-answer.ensures.states_left x.total ∙ ap (λ o. o.state) eq;
       within = within_front states x.table n many x.total kept x.within;
       long = length_front states x.table n many x.long c.count-stations.ensures.few;
     }

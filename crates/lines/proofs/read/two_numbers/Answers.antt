@@ -1,9 +1,0 @@
-use Rattle.std.proofs.Common.{[], ◌∷◌}
-use Rattle.lines.proofs.Numbers.{goes_on}
-use Rattle.lines.proofs.read.two_numbers.Goals as goal
-
-pub returns-in_err-second : goal.returns-in_err-second
-returns-in_err-second c =
-    let n = c.in_ok-first in
-    rw c.from_residual-in_err-second.ensures
-    (λ a b are. c.in_err-second.ensures b (goes_on c.args.bytes.now n.rest.now n.first n.ensures a (b ∷ []) are).1)

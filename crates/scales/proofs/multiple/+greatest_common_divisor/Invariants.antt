@@ -1,0 +1,4 @@
+use Rattle.scales.proofs.multiple.+greatest_common_divisor.Given as goal
+
+abbrev pub decreases-greatest_common_divisor : goal.decreases-greatest_common_divisor
+decreases-greatest_common_divisor l = l.second
