@@ -3,20 +3,39 @@
 
 #![tactic(auto)]
 
+use anyhow::anyhow;
 use book_check::check;
-use std::alloc::Global;
 use std::io::{BufRead, BufReader};
 
 const ROW: usize = 32;
 
-// The bytes of a row.
-fn row_bytes(heap: Global, row: &str) -> anyhow::Result<Vec<u8>> {
-    if let Some(part) = row.strip_suffix('.') {
-        return Ok(hex::decode(heap, part)?);
+fn digit(code: u8) -> anyhow::Result<u8> {
+    match code {
+        b'0'..=b'9' => Ok(code - b'0'),
+        b'a'..=b'f' => Ok(code - b'a' + 10),
+        _ => Err(anyhow!("not a hex number")),
     }
-    let mut bytes = hex::decode(heap, row)?;
-    bytes.resize(bytes.len().max(ROW), 0)?;
-    Ok(bytes)
+}
+
+fn push_bytes(book: &mut Vec<u8>, hex: &str) -> anyhow::Result<()> {
+    for pair in hex.as_bytes().chunks(2) {
+        let [high, low] = pair else {
+            return Err(anyhow!("not a hex number"));
+        };
+        let byte = (digit(*high)? << 4) | digit(*low)?;
+        book.push(byte)?;
+    }
+    Ok(())
+}
+
+fn push_row(book: &mut Vec<u8>, row: &str) -> anyhow::Result<()> {
+    if let Some(part) = row.strip_suffix('.') {
+        return push_bytes(book, part);
+    }
+    let full = book.len().saturating_add(ROW);
+    push_bytes(book, row)?;
+    book.resize(book.len().max(full), 0)?;
+    Ok(())
 }
 
 // Answers a line.
@@ -27,7 +46,7 @@ fn judge(rt: &HostRuntime, line: &str) -> anyhow::Result<()> {
     };
     let mut book = Vec::new(rt.alloc());
     for row in words {
-        book.extend_from_slice(&row_bytes(rt.alloc(), row)?)?;
+        push_row(&mut book, row)?;
     }
     match check(&book) {
         Ok(_) => println!(rt; "{name} ok")?,
