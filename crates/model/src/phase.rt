@@ -1,5 +1,5 @@
 // What the machine reads at a phase.
-ghost use Rattle.std.specs.Prelude.{◌≡◌, ℕ, ◌<◌, false, ◌&&◌, map, length, drop, nat_lt, slice_index};
+ghost use Rattle.std.specs.Prelude.{◌≡◌, ℕ, ◌<◌, false, ◌&&◌, map, length, drop, if◌then◌else◌, ◌==◌, nat_lt, slice_index};
 ghost use Rattle.std.specs.Bool.{then_some};
 ghost use Rattle.std.specs.Option.{unwrap_or};
 ghost use Rattle.book.specs.declared.record.Word.{Word as Letter};
@@ -33,11 +33,23 @@ use scales::scale::in_ticks;
 use semantics::state::Move;
 use std::array;
 
+// The scale of the station at a place; 0 where there is none. Without that test the head would be
+// read as a station, with all that its bytes seem to name.
+fn scale_at(book: &[u8], places: &Places, place: usize) -> u32
+    ensures { result ≡ (if nat_lt place places.now.stations then fitting_scale book.now (station_in places.now place) else 0) }
+{
+    if place < places.stations() {
+        station_scale(book, places.station_at(place)).unwrap_or(0)
+    } else {
+        0
+    }
+}
+
 // The scales of the stations.
 pub(crate) fn scales_of(book: &[u8], places: &Places) -> [u32; 16]
     ensures { (i : ℕ) → i < 16 → i < places.now.stations → slice_index result i ≡ fitting_scale book.now (station_in places.now i) }
 {
-    array::from_fn(|i| station_scale(book, places.station_at(i)).unwrap_or(0))
+    array::from_fn(|place| scale_at(book, places, place))
 }
 
 // Whether edge e takes the word at the moment, in a phase with this lifetime.
@@ -48,6 +60,13 @@ fn does_take(book: &[u8], lifetime: Option<Fraction>, word: Word, moment: Moment
     is_among(word, edge.port, edge.lowest, edge.highest)
         && is_inside(edge.window, moment)
         && does_count(order_in(book), lifetime, moment)
+}
+
+// Whether a record of a chain that stands at place `at` is the one at that place.
+fn is_at(at: usize, place: usize) -> bool
+    ensures { result ≡ (at == place) }
+{
+    at == place
 }
 
 // The number of the stance of a phase, by its place, with no word sent.
@@ -69,7 +88,7 @@ impl Model<'_> {
         let found = first_in_chain::<ModelBody, _>(
             self.book,
             phase.first_word,
-            |at| at.0 == place,
+            |at| is_at(at.0, place),
         )?;
         Some(word_in(&parts_at(self.book, found)))
     }

@@ -28,6 +28,8 @@ fn bound_in(parts: &Parts<'_>) -> Option<u64>
     is_marked(parts.marks, 2).then(|| eight_at(parts.rest, 8))
 }
 
+// Inlined where it is read: the tests of a layout then need none of the fields.
+#[inline(always)]
 pub fn location_in(parts: &Parts<'_>) -> Location
     ensures { result ≡ location_in parts.now.marks parts.now.rest.now }
 {
@@ -86,6 +88,8 @@ fn is_label_laid(rest: &[u8]) -> bool
     }
 }
 
+// Inlined where it is read: the tests of a layout then need none of the fields.
+#[inline(always)]
 pub fn transition_in(parts: &Parts<'_>) -> Transition
     ensures { result ≡ transition_in parts.now.marks parts.now.rest.now }
 {

@@ -88,6 +88,11 @@ impl fmt::Display for HeadLine<'_> {
     }
 }
 
+// The same as a text of its own.
+pub fn head_line(heap: Global, kind: BookKind, book: &[u8]) -> Result<String, AllocError> {
+    format!(in heap; "{}", HeadLine { kind, book })
+}
+
 // A station's record, its number from 1, and what belongs to it.
 fn write_station<R: Named, W: fmt::Write>(
     f: &mut fmt::Formatter<W>,

@@ -47,9 +47,10 @@ pub enum Mistake {
     OutOfMemory,
 }
 
-impl fmt::Display for Mistake {
-    fn fmt<W: fmt::Write>(&self, f: &mut fmt::Formatter<W>) -> fmt::Result {
-        f.write_str(match self {
+impl Mistake {
+    // The same in words.
+    pub fn text(self) -> &'static str {
+        match self {
             Mistake::UnknownCall => "there is no such call: make, wait, word, step, tell or paths",
             Mistake::MissingNumber => "a number is missing",
             Mistake::BadNumber => "this is no number, or it is too large",
@@ -57,7 +58,13 @@ impl fmt::Display for Mistake {
             Mistake::BadPath =>
                 "a path is four numbers from 0 to 255 with commas between, as 0,1,1,1",
             Mistake::OutOfMemory => "there is no memory left",
-        })
+        }
+    }
+}
+
+impl fmt::Display for Mistake {
+    fn fmt<W: fmt::Write>(&self, f: &mut fmt::Formatter<W>) -> fmt::Result {
+        f.write_str(self.text())
     }
 }
 
